@@ -1,0 +1,38 @@
+-- The two ends and what they share.
+-- Assumes nothing: these are definitions.
+use Prim.Native.Nat.{ℕ}
+use mathlib.Core.Bool.{Bool, true, false, cond, not, _&&_}
+use lib.Bits.{bitAnd}
+use lib.Dec.{eqb}
+use Rattle.number.specs.Bits.{hasBit}
+use Rattle.header.specs.declared.Side.{Side}
+use Rattle.header.specs.declared.Side.the-variants.{Guest, Host}
+use Rattle.header.specs.declared.Hello.{Hello}
+use Rattle.header.specs.declared.Hello.the-variants.{Awaited, Passed}
+use Rattle.header.specs.declared.Link.{Link}
+
+-- the first capability word of a hello that has passed; one that has not offers nothing
+abbrev pub offered : Hello → ℕ
+offered Awaited = 0
+offered (Passed word) = word
+
+abbrev pub passed : Hello → Bool
+passed Awaited = false
+passed (Passed word) = true
+
+-- the sender's own hello
+abbrev pub helloOf : Side → Link → Hello
+helloOf Guest l = l .guest
+helloOf Host l = l .host
+
+abbrev pub own : Link → Hello
+own l = helloOf (l .sender) l
+
+-- document 01: "Shared set: bits set in both hellos' first capability word."
+-- Only bits 0 to 7 are ever asked for: "Other bits and words are ignored."
+unfoldable pub sharedSet : Link → ℕ
+sharedSet l = bitAnd (offered (l .guest)) (offered (l .host))
+
+-- document 01: "id u32; id is u64 once both hellos have passed and bit 5 is shared. Hellos always use the 12-byte header."
+unfoldable pub idWidth : Link → ℕ → ℕ
+idWidth l kind = cond (not (eqb kind 0) && hasBit (sharedSet l) 5) 8 4

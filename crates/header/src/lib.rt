@@ -1,0 +1,115 @@
+// The two ends, what their hellos offered, the shared set, and the packet header with its two widths.
+ghost use mathlib.Core.Path.{_≡_};
+ghost use Rattle.header.specs.Link.{offered, sharedSet, passed, idWidth};
+ghost use Rattle.header.specs.Header.{headerOf, headerNumber};
+use number::get;
+use number::get32;
+use number::has_bit;
+
+pub enum Side {
+    Guest,
+    Host,
+}
+
+// An end's hello: not passed yet, or passed with this first capability word (0 if it had none).
+pub enum Hello {
+    Awaited,
+    Passed(u32),
+}
+
+// One direction of a session as the wire checks see it: who sends, and both hellos.
+pub struct Link {
+    pub sender: Side,
+    pub guest: Hello,
+    pub host: Hello,
+}
+
+// A header as read: its kind, the body length that it says, its id, and its own size in bytes.
+pub struct Header {
+    pub kind: u32,
+    pub length: u32,
+    pub id: u64,
+    pub size: usize,
+}
+
+// The capability word that a hello has offered so far.
+pub fn offer(h: Hello) -> u32
+    ensures { λ r. ⌜ r ≡ offered h ⌝ }
+{
+    match h {
+        Hello::Awaited => 0,
+        Hello::Passed(word) => word,
+    }
+}
+
+// The bits that both hellos offered; none before both have passed.
+pub fn shared_set(l: Link) -> u32
+    ensures { λ r. ⌜ r ≡ sharedSet l ⌝ }
+{
+    let guest = l.guest;
+    let host = l.host;
+    offer(guest) & offer(host)
+}
+
+fn has_passed(h: Hello) -> bool
+    ensures { λ r. ⌜ r ≡ passed h ⌝ }
+{
+    match h {
+        Hello::Awaited => false,
+        Hello::Passed(_) => true,
+    }
+}
+
+// The sender's own hello has passed.
+pub fn introduced(l: Link) -> bool
+    ensures { λ r. ⌜ r ≡ passed (Rattle.header.specs.Link.own l) ⌝ }
+{
+    let sender = l.sender;
+    let guest = l.guest;
+    let host = l.host;
+    match sender {
+        Side::Guest => has_passed(guest),
+        Side::Host => has_passed(host),
+    }
+}
+
+// The bytes of an id: 8 where 64-bit ids are shared, but 4 in every hello.
+pub fn id_width(l: Link, kind: u32) -> usize
+    ensures { λ r. ⌜ r ≡ idWidth l kind ⌝ }
+{
+    if (kind != 0) & has_bit(shared_set(l), 5) {
+        8
+    } else {
+        4
+    }
+}
+
+// The header that the bytes begin with; bytes past their end count as 0.
+pub fn read_header(l: Link, bytes: &[u8]) -> Header
+    ensures { λ r. ⌜ r ≡ headerOf l (now (bytes .entry)) ⌝ }
+{
+    let kind = get32(bytes, 0);
+    let length = get32(bytes, 4);
+    let width = id_width(l, kind);
+    let id = get(bytes, 8, width);
+    Header {
+        kind,
+        length,
+        id,
+        size: 8 + width,
+    }
+}
+
+// 10, 11 or 12 where one holds, in that order, else 0.
+pub fn header_number(l: Link, kind: u32, length: usize) -> u8
+    ensures { λ r. ⌜ r ≡ headerNumber l kind length ⌝ }
+{
+    if 32768 < length {
+        return 10;
+    }
+    if introduced(l) {
+        if kind == 0 { 12 } else { 0 }
+    } else {
+        if kind == 0 { 0 } else { 11 }
+    }
+}

@@ -1,0 +1,153 @@
+-- Worked examples, each by computation: sizes, names, numbers and places.
+-- Assumes nothing.
+use mathlib.Core.Path.{_≡_, refl}
+use mathlib.Core.Bool.{Bool, true, false, cond, _&&_, _||_}
+use mathlib.Core.List.{List, [], _∷_, map}
+use mathlib.Core.Option.{none, some}
+use Prim.Native.Nat.{ℕ}
+use Prim.Native.String.{String}
+use lib.ListN.{replicate, set}
+use lib.Text.{eqt}
+use Rattle.header.specs.declared.Side.{Side}
+use Rattle.header.specs.declared.Side.the-variants.{Guest, Host}
+use Rattle.header.specs.declared.Hello.the-variants.{Awaited, Passed}
+use Rattle.header.specs.Link.{sharedSet, idWidth}
+use Rattle.kinds.specs.Table.{Field, Tail, nothing, words, string, payload, payload-onward, Kind, kinds, kindAt}
+use Rattle.kinds.specs.Content.{Value, one, Content, shared, size}
+use Rattle.kinds.specs.Number.{bad, kindNumber, wireNumber}
+
+-- ---- sizes
+
+-- document 01's "body bytes" of all kinds, without what follows the fields: of connect, endpoint table and bulk as given
+abbrev bodyBytes : ℕ → ℕ → ℕ → List ℕ
+bodyBytes connect table bulk =
+    64 ∷ connect ∷ 0 ∷ 0 ∷ 132 ∷ table
+    ∷ 1 ∷ 0 ∷ 2 ∷ 2 ∷ 1 ∷ 3 ∷ 3 ∷ 1 ∷ 2 ∷ 1 ∷ 1 ∷ 2
+    ∷ 8 ∷ 4 ∷ 9 ∷ 0 ∷ 0 ∷ 0 ∷ 0 ∷ 10 ∷ 5 ∷ 6
+    ∷ 10 ∷ bulk ∷ 4 ∷ 4 ∷ 10 ∷ []
+
+abbrev sizesUnder : ℕ → List ℕ
+sizesUnder caps = map (λ (k : Kind). size (shared caps) (k .fields)) kinds
+
+-- no bit; bit 1; bit 4; bits 4 and 0; bit 6; bit 0 alone adds nothing
+pub sizes : (sizesUnder 0 ≡ bodyBytes 8 96 8)
+    × (sizesUnder 2 ≡ bodyBytes 10 96 8)
+    × (sizesUnder 16 ≡ bodyBytes 8 160 8)
+    × (sizesUnder 17 ≡ bodyBytes 8 288 8)
+    × (sizesUnder 64 ≡ bodyBytes 8 96 10)
+    × (sizesUnder 1 ≡ bodyBytes 8 96 8)
+unfolding kinds
+sizes = (refl, refl, refl, refl, refl, refl)
+
+-- ---- names
+
+abbrev has : String → List Field → Bool
+has n [] = false
+has n (f ∷ fs) = eqt n (f .name) || has n fs
+
+-- what follows the fields is sized by fields that are spelt as the definitions look them up
+abbrev tailSpelt : Tail → List Field → Bool
+tailSpelt nothing fs = true
+tailSpelt words fs = true
+tailSpelt string fs = true
+tailSpelt payload fs = has "length" fs
+tailSpelt payload-onward fs = has "length" fs && has "endpoint" fs
+
+abbrev allSpelt : List Kind → Bool
+allSpelt [] = true
+allSpelt (k ∷ ks) = tailSpelt (k .tail) (k .fields) && allSpelt ks
+
+-- the numbers of the kinds that have a field of this name
+abbrev kindsWith : String → List Kind → List ℕ
+kindsWith n [] = []
+kindsWith n (k ∷ ks) = cond (has n (k .fields)) (k .number ∷ kindsWith n ks) (kindsWith n ks)
+
+pub spelt : (allSpelt kinds ≡ true)
+    × (kindsWith "length" kinds ≡ (100 ∷ 101 ∷ 102 ∷ 103 ∷ 104 ∷ []))
+    × (kindsWith "length high" kinds ≡ (101 ∷ []))
+unfolding kinds
+spelt = (refl, refl, refl)
+
+-- ---- numbers
+
+abbrev packet : ℕ → ℕ → List Value → List ℕ → Content
+packet kind id fields rest = record { kind = kind; id = id; fields = fields; rest = rest }
+
+-- the number of a packet where both hellos have passed and offered these
+abbrev number : Side → ℕ → Content → ℕ
+number from caps p = wireNumber (record { sender = from; guest = Passed caps; host = Passed caps }) p
+
+-- where no hello has passed
+abbrev first : Content → ℕ
+first p = wireNumber (record { sender = Guest; guest = Awaited; host = Awaited }) p
+
+-- where only the guest's has
+abbrev lone : ℕ → Content → ℕ
+lone caps p = wireNumber (record { sender = Guest; guest = Passed caps; host = Awaited }) p
+
+-- a hello whose version is 64 times x
+abbrev hello : ℕ → List ℕ → Content
+hello x s = packet 0 0 (some (replicate 64 x) ∷ []) s
+
+abbrev connect : ℕ → Value → Content
+connect speed version = packet 1 0 (one speed ∷ one 0 ∷ one 0 ∷ one 0 ∷ one 0 ∷ one 0 ∷ version ∷ []) []
+
+abbrev rows : Value
+rows = some (replicate 32 0)
+
+-- an endpoint table with this type in row 17
+abbrev table : ℕ → Value → Value → Content
+table type packets streams = packet 5 0 (some (set (replicate 32 0) 17 type) ∷ rows ∷ rows ∷ packets ∷ streams ∷ []) []
+
+abbrev control : ℕ → ℕ → Content
+control requesttype status = packet 100 3 (one 0 ∷ one 6 ∷ one requesttype ∷ one status ∷ one 0 ∷ one 0 ∷ one 0 ∷ []) []
+
+abbrev bulk : ℕ → Value → List ℕ → Content
+bulk stream high s = packet 101 9 (one 2 ∷ one 0 ∷ one 2 ∷ one stream ∷ high ∷ []) s
+
+pub passing : (number Guest 0 (packet 7 7 [] []) ≡ 0)  -- M1
+    × (number Guest 0 (bulk 0 none (170 ∷ 187 ∷ [])) ≡ 0)  -- M3
+    × (number Host 0 (bulk 0 none []) ≡ 0)  -- M4
+    × (first (hello 0 (17 ∷ 0 ∷ 0 ∷ 0 ∷ [])) ≡ 0)  -- M10
+    × (number Host 0 (packet 8 1 (one 6 ∷ one 1 ∷ []) []) ≡ 0)
+    × (number Guest 0 (control 0 255) ≡ 0)
+    × (number Host 2 (connect 255 (one 0)) ≡ 0)
+    × (number Host 17 (table 255 rows rows) ≡ 0)
+    × (number Guest 1 (bulk 5 none (170 ∷ 187 ∷ [])) ≡ 0)
+    × (number Guest 32 (packet 7 4294967296 [] []) ≡ 0)
+unfolding sharedSet idWidth wireNumber kindNumber bad kinds
+passing = (refl, refl, refl, refl, refl, refl, refl, refl, refl, refl)
+
+pub refused : (number Guest 0 (packet 28 0 [] []) ≡ 20)
+    × (number Host 0 (packet 7 0 [] []) ≡ 21)
+    × (number Guest 0 (packet 22 0 [] []) ≡ 22)
+    × (number Host 0 (connect 0 (one 0)) ≡ 22)
+    × (number Host 16 (table 0 rows rows) ≡ 22)
+    × (number Guest 0 (bulk 0 (one 1) (170 ∷ 187 ∷ [])) ≡ 22)
+    × (lone 32 (packet 7 4294967296 [] []) ≡ 22)
+    × (number Guest 0 (packet 7 7 [] (1 ∷ [])) ≡ 23)
+    × (number Guest 0 (bulk 0 none (170 ∷ [])) ≡ 23)
+    × (number Host 0 (bulk 0 none (170 ∷ 187 ∷ [])) ≡ 23)
+    × (number Guest 4 (packet 23 0 [] []) ≡ 23)
+    × (number Host 0 (packet 8 1 (one 7 ∷ one 1 ∷ []) []) ≡ 24)
+    × (number Guest 0 (packet 12 5 (one 18 ∷ one 1 ∷ one 1 ∷ []) []) ≡ 24)  -- M9
+    × (number Guest 1 (packet 18 1 (one 0 ∷ one 0 ∷ []) []) ≡ 24)
+    × (number Guest 0 (bulk 5 none (170 ∷ 187 ∷ [])) ≡ 24)
+    × (number Guest 4 (packet 23 0 [] (0 ∷ 48 ∷ [])) ≡ 24)
+    × (first (hello 1 []) ≡ 24)
+    × (first (hello 0 (1 ∷ 0 ∷ 0 ∷ 0 ∷ [])) ≡ 13)  -- M10
+unfolding sharedSet idWidth wireNumber kindNumber bad kinds
+refused = (refl, refl, refl, refl, refl, refl, refl, refl, refl, refl, refl, refl, refl, refl, refl, refl, refl, refl)
+
+-- ---- places: of the first bad field, and of an id only where no field is bad
+
+pub places : (bad Host 17 (kindAt 5) (table 4 rows rows) ≡ some 17)
+    × (bad Host 0 (kindAt 28) (control 128 7) ≡ some 2)
+    × (bad Host 0 (kindAt 28) (control 0 7) ≡ some 3)
+    × (bad Host 0 (kindAt 2) (packet 2 1 [] []) ≡ some 65535)
+    × (bad Host 0 (kindAt 2) (packet 2 0 [] []) ≡ none)
+    × (bad Host 2 (kindAt 1) (connect 0 none) ≡ some 8)
+    × (bad Host 16 (kindAt 5) (table 0 none none) ≡ some 96)
+    × (bad Host 17 (kindAt 5) (table 0 rows none) ≡ some 160)
+unfolding bad kinds
+places = (refl, refl, refl, refl, refl, refl, refl, refl)

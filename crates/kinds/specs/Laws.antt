@@ -1,0 +1,234 @@
+-- What is written is what is read, over any list of fields: the layout's laws, which know no kind.
+-- Assumes nothing.
+use mathlib.Core.Path.{_≡_, refl, sym, ap, subst, _∙_}
+use mathlib.Core.Bool.{Bool, true, false, cond, not, _&&_, _||_, false≢true}
+use mathlib.Core.List.{List, [], _∷_, _++_, append-assoc}
+use mathlib.Core.Option.{Option, none, some}
+use Prim.Native.Nat.{ℕ, zero, suc, _+_, _-_, _*_, _^_, _≤_, _<_}
+use native.Mathlib.Nat.{add-assoc, add-zero, zero-add, mul-zero, mul-suc, add-comm}
+use native.Mathlib.Omega.{arith}
+use lib.ListN.{length, getD, take, drop, length-append, length-drop, take-append-drop}
+use lib.Seq.{drop-at, drop-drop, length-take-le}
+use lib.Dec.{eqb, leb, leb·zero, eqb·zero-suc}
+use borrow.Author.Tests.{eqb-true, le-leb, lt-leb, leb-true, leb-false, eq-eqb}
+use Rattle.header.specs.declared.Side.{Side}
+use Rattle.number.specs.Little.{le, bytesOf}
+use Rattle.number.specs.Laws.{le-bytes, le-shift, length-bytes}
+use Rattle.kinds.specs.Table.{Bits, Field}
+use Rattle.kinds.specs.Content.{Value, shared, sizeOf, size, numbers, whole, split, bytesOfAll, bytesOfValue, bytes}
+use Rattle.kinds.specs.Number.{surplus, complete, badField, badFields, isNone, orElse}
+use Rattle.kinds.specs.Codec.{Below, Fitting}
+
+-- ---- tests
+
+pub and-left : (a b : Bool) → (a && b) ≡ true → a ≡ true
+and-left true b e = refl
+and-left false b e = e
+
+pub and-right : (a b : Bool) → (a && b) ≡ true → b ≡ true
+and-right true b e = e
+and-right false b e = absurd (false≢true e)
+
+pub or-left : (a b : Bool) → (a || b) ≡ false → a ≡ false
+or-left true b e = e
+or-left false b e = refl
+
+pub or-right : (a b : Bool) → (a || b) ≡ false → b ≡ false
+or-right true b e = absurd (false≢true (sym e))
+or-right false b e = e
+
+pub isNone-left : (x y : Option ℕ) → isNone (orElse x y) ≡ true → isNone x ≡ true
+isNone-left none y e = refl
+isNone-left (some a) y e = e
+
+pub isNone-right : (x y : Option ℕ) → isNone (orElse x y) ≡ true → isNone y ≡ true
+isNone-right none y e = e
+isNone-right (some a) y e = absurd (false≢true e)
+
+-- ---- values that fit their fields, as the layout `has` has them
+
+abbrev pub FitField : Bool → ℕ → ℕ → Value → Type 0
+FitField true w n none = ⊥
+FitField true w n (some xs) = (length xs ≡ n) × Below w xs
+FitField false w n none = Unit {0}
+FitField false w n (some xs) = ⊥
+
+abbrev pub Fit : (Bits → Bool) → List Field → List Value → Type 0
+Fit has [] [] = Unit {0}
+Fit has [] (v ∷ vs) = ⊥
+Fit has (f ∷ fs) [] = ⊥
+Fit has (f ∷ fs) (v ∷ vs) = FitField (has (f .there)) (f .width) (f .times) v × Fit has fs vs
+
+missing-none : (b : Bool) (w n at : ℕ) → isNone (cond b (some at) none) ≡ true → FitField b w n none
+missing-none true w n at e = absurd (false≢true e)
+missing-none false w n at e = tt
+
+present-some : (b : Bool) (w n : ℕ) (xs : List ℕ) → Below w xs → not b ≡ false → eqb (length xs) n ≡ true → FitField b w n (some xs)
+present-some true w n xs t s c = (eqb-true (length xs) n c, t)
+present-some false w n xs t s c = absurd (false≢true (sym s))
+
+-- complete, nothing surplus, nothing missing: the values fit
+pub fit : (from : Side) (caps e : ℕ) (fs : List Field) (vs : List Value) (at : ℕ) → Fitting fs vs → complete fs vs ≡ true → surplus caps fs vs ≡ false
+    → isNone (badFields from caps e fs vs at) ≡ true → Fit (shared caps) fs vs
+fit from caps e [] [] at t c s b = tt
+fit from caps e [] (v ∷ vs) at t c s b = absurd t
+fit from caps e (f ∷ fs) [] at t c s b = absurd t
+fit from caps e (f ∷ fs) (none ∷ vs) at t c s b =
+    let x : Option ℕ = cond (shared caps (f .there)) (some at) none in
+    let y : Option ℕ = badFields from caps e fs vs (at + sizeOf (shared caps) f) in
+    (missing-none (shared caps (f .there)) (f .width) (f .times) at (isNone-left x y b), fit from caps e fs vs (at + sizeOf (shared caps) f) t c s (isNone-right x y b))
+fit from caps e (f ∷ fs) (some xs ∷ vs) at t c s b =
+    let x : Option ℕ = badField from caps e f (some xs) at in
+    let y : Option ℕ = badFields from caps e fs vs (at + sizeOf (shared caps) f) in (
+      present-some (shared caps (f .there)) (f .width) (f .times) xs (t .0) (or-left (not (shared caps (f .there))) (surplus caps fs vs) s)
+          (and-left (eqb (length xs) (f .times)) (complete fs vs) c),
+      fit from caps e fs vs (at + sizeOf (shared caps) f) (t .1) (and-right (eqb (length xs) (f .times)) (complete fs vs) c)
+          (or-right (not (shared caps (f .there))) (surplus caps fs vs) s) (isNone-right x y b),
+    )
+
+-- ---- the numbers of a field
+
+numbers-shift : (w n : ℕ) (p s : List ℕ) (at : ℕ) → numbers w n (p ++ s) (length p + at) ≡ numbers w n s at
+numbers-shift w zero p s at = refl
+numbers-shift w (suc n) p s at = rw (le-shift p s w at, add-assoc (length p) at w, numbers-shift w n p s (at + w))
+
+-- what stands after p is read as if p were not there
+pub numbers-after : (w n k : ℕ) (p s : List ℕ) → length p ≡ k → numbers w n (p ++ s) k ≡ numbers w n s 0
+numbers-after w n k p s e = ap (numbers w n (p ++ s)) (sym (add-zero (length p) ∙ e)) ∙ numbers-shift w n p s 0
+
+numbers-back : (w : ℕ) (xs r : List ℕ) → Below w xs → numbers w (length xs) (bytesOfAll w xs ++ r) 0 ≡ xs
+numbers-back w [] r h = refl
+numbers-back w (x ∷ xs) r h =
+    rw (
+      append-assoc (bytesOf w x) (bytesOfAll w xs) r,
+      zero-add w,
+      le-bytes w x (bytesOfAll w xs ++ r) (h .0),
+      numbers-after w (length xs) w (bytesOf w x) (bytesOfAll w xs ++ r) (length-bytes w x),
+      numbers-back w xs r (h .1),
+    )
+
+pub length-all : (w : ℕ) (xs : List ℕ) → length (bytesOfAll w xs) ≡ w * length xs
+length-all w [] = sym (mul-zero w)
+length-all w (x ∷ xs) = rw (length-append, length-bytes w x, length-all w xs, mul-suc) (add-comm w (w * length xs))
+
+-- ---- one field
+
+value-size : (b : Bool) (w n : ℕ) (v : Value) → FitField b w n v → length (bytesOfValue w v) ≡ cond b (w * n) 0
+value-size true w n none h = absurd h
+value-size true w n (some xs) h = length-all w xs ∙ ap (λ (m : ℕ). w * m) (h .0)
+value-size false w n none h = refl
+value-size false w n (some xs) h = absurd h
+
+value-back : (b : Bool) (f : Field) (v : Value) (r : List ℕ) → FitField b (f .width) (f .times) v → cond b (some (whole f (bytesOfValue (f .width) v ++ r))) none ≡ v
+value-back true f none r h = absurd h
+value-back true f (some xs) r h =
+    let w : ℕ = f .width in
+    let e : length (bytesOfAll w xs) ≡ w * f .times = length-all w xs ∙ ap (λ (m : ℕ). w * m) (h .0) in
+    let l : w * f .times ≤ length (bytesOfAll w xs ++ r) = omega (arith, e, length-append (bytesOfAll w xs) r) in
+    rw (le-leb (w * f .times) (length (bytesOfAll w xs ++ r)) l)
+    (ap some (subst (λ (m : ℕ). numbers w m (bytesOfAll w xs ++ r) 0 ≡ xs) (h .0) (numbers-back w xs r (h .1))))
+value-back false f none r h = refl
+value-back false f (some xs) r h = absurd h
+
+-- ---- the fields
+
+-- the values come back, whatever follows
+pub round : (has : Bits → Bool) (fs : List Field) (vs : List Value) (q : List ℕ) → Fit has fs vs → split has fs (bytes fs vs ++ q) ≡ vs
+round has [] [] q h = refl
+round has [] (v ∷ vs) q h = absurd h
+round has (f ∷ fs) [] q h = absurd h
+round has (f ∷ fs) (v ∷ vs) q h =
+    let b : List ℕ = bytesOfValue (f .width) v in
+    rw (
+      append-assoc b (bytes fs vs) q,
+      value-back (has (f .there)) f v (bytes fs vs ++ q) (h .0),
+      drop-at b (bytes fs vs ++ q) (sizeOf has f) (value-size (has (f .there)) (f .width) (f .times) v (h .0)),
+      round has fs vs q (h .1),
+    )
+
+-- their bytes are as many as the layout says
+pub length-of : (has : Bits → Bool) (fs : List Field) (vs : List Value) → Fit has fs vs → length (bytes fs vs) ≡ size has fs
+length-of has [] [] h = refl
+length-of has [] (v ∷ vs) h = absurd h
+length-of has (f ∷ fs) [] h = absurd h
+length-of has (f ∷ fs) (v ∷ vs) h = rw (length-append, value-size (has (f .there)) (f .width) (f .times) v (h .0), length-of has fs vs (h .1))
+
+-- what follows the fields comes back too
+pub rest-back : (has : Bits → Bool) (fs : List Field) (vs : List Value) (q : List ℕ) → Fit has fs vs → drop (size has fs) (bytes fs vs ++ q) ≡ q
+rest-back has fs vs q h = drop-at (bytes fs vs) q (size has fs) (length-of has fs vs h)
+
+-- ---- what is read
+
+length-numbers : (w n : ℕ) (s : List ℕ) (at : ℕ) → length (numbers w n s at) ≡ n
+length-numbers w zero s at = refl
+length-numbers w (suc n) s at = ap suc (length-numbers w n s (at + w))
+
+split-at : (k n : ℕ) (s : List ℕ) → n ≤ length s → leb k (length (drop n s)) ≡ leb (n + k) (length s)
+split-at k n s h = go (leb k (length (drop n s))) refl
+  where
+    go : (b : Bool) → leb k (length (drop n s)) ≡ b → leb k (length (drop n s)) ≡ leb (n + k) (length s)
+    go true t = t ∙ sym (le-leb (n + k) (length s) (omega (arith, leb-true k (length (drop n s)) t, length-drop n s)))
+    go false t = t ∙ sym (lt-leb (n + k) (length s) (omega (arith, leb-false k (length (drop n s)) t, length-drop n s)))
+
+-- a field is whole where all its bytes are there
+whole-complete : (f : Field) (s : List ℕ) (r : Bool) → (eqb (length (whole f s)) (f .times) && r) ≡ (leb (f .width * f .times) (length s) && r)
+whole-complete f s r = go (leb (f .width * f .times) (length s)) refl
+  where
+    none-there : (t : ℕ) → t ≡ f .times → leb (f .width * f .times) (length s) ≡ false → eqb 0 t ≡ false
+    none-there zero e h =
+        let l : length s < f .width * f .times = leb-false (f .width * f .times) (length s) h in
+        absurd (omega (arith, l, ap (λ (m : ℕ). f .width * m) (sym e), mul-zero (f .width)))
+    none-there (suc t) e h = eqb·zero-suc t
+
+    go : (b : Bool) → leb (f .width * f .times) (length s) ≡ b → (eqb (length (whole f s)) (f .times) && r) ≡ (leb (f .width * f .times) (length s) && r)
+    go true t = rw (t, eq-eqb (length (numbers (f .width) (f .times) s 0)) (f .times) (length-numbers (f .width) (f .times) s 0))
+    go false t = rw (t, none-there (f .times) refl t)
+
+-- all fields have their numbers exactly where the bytes are as many as the layout says
+pub complete-split : (has : Bits → Bool) (fs : List Field) (s : List ℕ) → complete fs (split has fs s) ≡ leb (size has fs) (length s)
+complete-split has [] s = sym (leb·zero (length s))
+complete-split has (f ∷ fs) s = go (has (f .there)) refl (complete-split has fs (drop (sizeOf has f) s))
+  where
+    go : (b : Bool) → has (f .there) ≡ b → complete fs (split has fs (drop (sizeOf has f) s)) ≡ leb (size has fs) (length (drop (sizeOf has f) s))
+        → complete (f ∷ fs) (split has (f ∷ fs) s) ≡ leb (size has (f ∷ fs)) (length s)
+    go false e ih = rw e (rw e at ih ∙ ap (λ (m : ℕ). leb m (length s)) (sym (zero-add (size has fs))))
+    go true e ih =
+        let n : ℕ = f .width * f .times in
+        let i : complete fs (split has fs (drop n s)) ≡ leb (size has fs) (length (drop n s)) = rw e at ih in
+        rw (e, whole-complete f s (complete fs (split has fs (drop n s))), i) (there (leb n (length s)) refl)
+      where
+        there : (b : Bool) → leb (f .width * f .times) (length s) ≡ b
+            → (leb (f .width * f .times) (length s) && leb (size has fs) (length (drop (f .width * f .times) s))) ≡ leb (f .width * f .times + size has fs) (length s)
+        there true t = rw t (split-at (size has fs) (f .width * f .times) s (leb-true (f .width * f .times) (length s) t))
+        there false t =
+            let l : length s < f .width * f .times = leb-false (f .width * f .times) (length s) t in
+            rw t (sym (lt-leb (f .width * f .times + size has fs) (length s) (omega arith)))
+
+-- the fields that stand in s from a place on, each read where it stands
+abbrev pub valuesAt : (Bits → Bool) → List Field → List ℕ → ℕ → List Value
+valuesAt has [] s at = []
+valuesAt has (f ∷ fs) s at = cond (has (f .there)) (some (numbers (f .width) (f .times) s at)) none ∷ valuesAt has fs s (at + sizeOf has f)
+
+numbers-drop : (w n k : ℕ) (s : List ℕ) → k ≤ length s → numbers w n (drop k s) 0 ≡ numbers w n s k
+numbers-drop w n k s h = sym (numbers-after w n k (take k s) (drop k s) (length-take-le k s h)) ∙ ap (λ (r : List ℕ). numbers w n r k) (take-append-drop k s)
+
+-- where all bytes are there, splitting them is reading each field where it stands
+split-from : (has : Bits → Bool) (fs : List Field) (s : List ℕ) (k : ℕ) → k ≤ length s → size has fs ≤ length (drop k s) → split has fs (drop k s) ≡ valuesAt has fs s k
+split-from has [] s k l h = refl
+split-from has (f ∷ fs) s k l h =
+    let n : ℕ = sizeOf has f in
+    let d : length (drop k s) ≡ length s - k = length-drop k s in
+    let e : drop n (drop k s) ≡ drop (k + n) s = drop-drop n k s in
+    let m : size has fs ≤ length (drop (k + n) s) = rw (length-drop (k + n) s) (omega arith) in
+    let ih : split has fs (drop (k + n) s) ≡ valuesAt has fs s (k + n) = split-from has fs s (k + n) (omega arith) m in
+    let v : cond (has (f .there)) (some (whole f (drop k s))) none ≡ cond (has (f .there)) (some (numbers (f .width) (f .times) s k)) none =
+    read-there (has (f .there)) f s k l (omega arith) in
+    rw (e, ih, v)
+  where
+    read-there : (b : Bool) (g : Field) (t : List ℕ) (j : ℕ) → j ≤ length t → cond b (g .width * g .times) 0 ≤ length (drop j t)
+        → cond b (some (whole g (drop j t))) none ≡ cond b (some (numbers (g .width) (g .times) t j)) none
+    read-there true g t j a z = rw (le-leb (g .width * g .times) (length (drop j t)) z) (ap some (numbers-drop (g .width) (g .times) j t a))
+    read-there false g t j a z = refl
+
+pub split-full : (has : Bits → Bool) (fs : List Field) (s : List ℕ) → size has fs ≤ length s → split has fs s ≡ valuesAt has fs s 0
+split-full has fs s h = split-from has fs s 0 (omega arith) h

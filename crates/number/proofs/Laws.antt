@@ -1,0 +1,68 @@
+-- What one turn of a loop does to a number or to a run of stores, and how a part is cut to what there is.
+-- Assumes nothing.
+use mathlib.Core.Path.{_≡_, refl, sym, ap, _∙_}
+use mathlib.Core.List.{List, [], _∷_}
+use Prim.Native.Nat.{ℕ, zero, suc, _+_, _-_, _*_, _/_, _%_, _^_, _≤_, _<_, min}
+use native.Mathlib.Nat.{pow-suc, pow-le-pow-right, zero-lt-suc, zero-min, min-zero, suc-min-suc, sub-zero, zero-sub, suc-sub-suc}
+use native.Mathlib.Numerals.{add-one}
+use native.Mathlib.Omega.{arith}
+use lib.ListN.{length, getD, set, take, drop, length-take}
+use lib.Seq.{sets, slice, drop-cons, take-nil}
+use Rattle.number.specs.Little.{le, bytesOf}
+
+-- one byte more, in front
+pub le-step : (s : List ℕ) (at n i : ℕ) → 0 < i → i ≤ n
+    → le (n - (i - 1)) s (at + (i - 1)) ≡ getD s (at + (i - 1)) 0 + 256 * le (n - i) s (at + i)
+le-step s at n i h k =
+    let e₁ : n - (i - 1) ≡ suc (n - i) = omega arith in
+    let e₂ : suc (at + (i - 1)) ≡ at + i = omega arith in
+    rw e₁ (ap (λ (m : ℕ). getD s (at + (i - 1)) 0 + 256 * le (n - i) s m) e₂)
+
+-- a number of n - i bytes, with one byte more
+pub grow : (n i x b : ℕ) → 0 < i → i ≤ n → x < 256 ^ (n - i) → b < 256 → x * 256 + b < 256 ^ (n - (i - 1))
+grow n i x b h k l m =
+    let e : n - (i - 1) ≡ suc (n - i) = omega arith in
+    rw e (omega (arith, pow-suc 256 (n - i)))
+
+-- at most 8 bytes fit 64 bits
+pub room : (n i : ℕ) → n ≤ 8 → 256 ^ (n - i) ≤ 256 ^ 8
+room n i h =
+    let l : n - i ≤ 8 = omega arith in
+    pow-le-pow-right (zero-lt-suc 255) l
+
+-- one byte less, off the front of what is still to be laid
+pub bytes-step : (out : List ℕ) (at n i y : ℕ) → i < n
+    → sets out (at + i) (bytesOf (n - i) y) ≡ sets (set out (at + i) (y % 256)) (at + (i + 1)) (bytesOf (n - (i + 1)) (y / 256))
+bytes-step out at n i y h =
+    let e₁ : n - i ≡ suc (n - (i + 1)) = omega arith in
+    let e₂ : suc (at + i) ≡ at + (i + 1) = omega arith in
+    rw e₁ (ap (λ (m : ℕ). sets (set out (at + i) (y % 256)) m (bytesOf (n - (i + 1)) (y / 256))) e₂)
+
+-- one element less, off the front of what is still to be laid
+pub lay-step : (out s : List ℕ) (at i : ℕ) → i < length s
+    → sets out (at + i) (drop i s) ≡ sets (set out (at + i) (getD s i 0)) (at + (i + 1)) (drop (i + 1) s)
+lay-step out s at i h =
+    let e : suc (at + i) ≡ at + (i + 1) = omega arith in
+    rw (drop-cons s i 0) (ap (λ (m : ℕ). sets (set out (at + i) (getD s i 0)) m (drop (suc i) s)) e ∙ ap (λ (m : ℕ). sets (set out (at + i) (getD s i 0)) (at + (i + 1)) (drop m s)) (sym (add-one i)))
+
+-- there is no more to take or to drop than there is
+pub take-min : (n : ℕ) (s : List ℕ) → take (min n (length s)) s ≡ take n s
+take-min zero s = rw zero-min
+take-min (suc n) [] = rw min-zero
+take-min (suc n) (x ∷ s) = rw suc-min-suc (ap (λ (r : List ℕ). x ∷ r) (take-min n s))
+
+pub drop-min : (n : ℕ) (s : List ℕ) → drop (min n (length s)) s ≡ drop n s
+drop-min zero s = rw zero-min
+drop-min (suc n) [] = rw min-zero
+drop-min (suc n) (x ∷ s) = rw suc-min-suc (drop-min n s)
+
+-- the two ways to cut a part out of the middle
+pub drop-take : (a e : ℕ) (s : List ℕ) → take (e - a) (drop a s) ≡ drop a (take e s)
+drop-take zero e s = rw sub-zero
+drop-take (suc a) zero s = rw zero-sub
+drop-take (suc a) (suc e) [] = rw take-nil
+drop-take (suc a) (suc e) (x ∷ s) = rw suc-sub-suc (drop-take a e s)
+
+-- a part goes no further than there is
+pub slice-min : (a e : ℕ) (s : List ℕ) → slice (min a (min e (length s))) (min e (length s)) s ≡ slice a e s
+slice-min a e s = rw (take-min, ← length-take, drop-min)

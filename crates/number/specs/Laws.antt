@@ -1,0 +1,47 @@
+-- The laws of numbers in bytes, each over the width.
+-- Assumes nothing.
+use mathlib.Core.Path.{_≡_, refl, sym, ap, _∙_}
+use mathlib.Core.List.{List, [], _∷_, _++_}
+use Prim.Native.Nat.{ℕ, zero, suc, _+_, _-_, _*_, _/_, _%_, _^_, _≤_, _<_}
+use native.Mathlib.Nat.{pow-suc, zero-add, suc-add, add-zero, le-of-suc-le-suc, not-suc-le-zero}
+use native.Mathlib.Omega.{arith}
+use lib.ListN.{length, getD, set, drop}
+use lib.Seq.{sets}
+use lib.Dec.{lit<}
+use Rattle.number.specs.Little.{le, bytesOf}
+
+pub le-cons : (b : ℕ) (s : List ℕ) (n at : ℕ) → le n (b ∷ s) (suc at) ≡ le n s at
+le-cons b s zero at = refl
+le-cons b s (suc n) at = ap (λ (m : ℕ). getD s at 0 + 256 * m) (le-cons b s n (suc at))
+
+-- what is read is what was written, for any width that holds it, whatever follows
+pub le-bytes : (n x : ℕ) (q : List ℕ) → x < 256 ^ n → le n (bytesOf n x ++ q) 0 ≡ x
+le-bytes zero x q h = omega arith
+le-bytes (suc n) x q h =
+    let l : x / 256 < 256 ^ n = omega (arith, pow-suc 256 n) in
+    let e : le n (x % 256 ∷ bytesOf n (x / 256) ++ q) 1 ≡ x / 256 = le-cons (x % 256) (bytesOf n (x / 256) ++ q) n 0 ∙ le-bytes n (x / 256) q l in
+    omega (arith, e)
+
+-- what stands after p is read as if p were not there
+pub le-shift : (p s : List ℕ) (n at : ℕ) → le n (p ++ s) (length p + at) ≡ le n s at
+le-shift [] s n at = ap (le n s) (zero-add at)
+le-shift (b ∷ p) s n at = ap (le n (b ∷ p ++ s)) (suc-add (length p) at) ∙ le-cons b (p ++ s) n (length p + at) ∙ le-shift p s n at
+
+pub le-after : (p s : List ℕ) (n k : ℕ) → length p ≡ k → le n (p ++ s) k ≡ le n s 0
+le-after p s n k e = ap (le n (p ++ s)) (sym (add-zero (length p) ∙ e)) ∙ le-shift p s n 0
+
+-- n bytes spell a number below 256 to the n
+pub le-lt : (s : List ℕ) → ((k : ℕ) → getD s k 0 < 256) → (n at : ℕ) → le n s at < 256 ^ n
+le-lt s b zero at = lit< tt
+le-lt s b (suc n) at = omega (arith, le-lt s b n (suc at), b at, pow-suc 256 n)
+
+pub length-bytes : (n x : ℕ) → length (bytesOf n x) ≡ n
+length-bytes zero x = refl
+length-bytes (suc n) x = ap suc (length-bytes n (x / 256))
+
+-- two runs of stores are one
+pub sets-append : (l : List ℕ) (i : ℕ) (xs ys : List ℕ) → sets l i (xs ++ ys) ≡ sets (sets l i xs) (i + length xs) ys
+sets-append l i [] ys = rw add-zero
+sets-append l i (x ∷ xs) ys =
+    let e : suc i + length xs ≡ i + suc (length xs) = omega arith in
+    sets-append (set l i x) (suc i) xs ys ∙ ap (λ (m : ℕ). sets (sets (set l i x) (suc i) xs) m ys) e

@@ -1,0 +1,193 @@
+// A packet as its own reading: a variant for each kind with the fields of document 01, in body order.
+// What does not fit a field stays in the packet's body and is named by its part: a hello's version and words, the rows of the
+// two tables, a filter's string, data. Offsets count from the body's first byte.
+ghost use mathlib.Core.Path.{_≡_};
+ghost use Rattle.packet.specs.Packet.{inPart};
+use endpoint::Endpoint;
+use endpoint::Row;
+use number::get;
+use number::get8;
+use number::get16;
+use number::get32;
+use number::less;
+use number::part;
+
+// Bytes of the body from start up to end.
+pub struct Part {
+    pub start: usize,
+    pub end: usize,
+}
+
+// Fields that are there only where their capability is shared.
+pub enum Optional16 {
+    Absent,
+    Present(u16),
+}
+
+pub enum Optional32 {
+    Absent,
+    Present(u32),
+}
+
+pub enum Packet {
+    Hello {
+        rest: Part,
+    },
+    Connect {
+        speed: u8,
+        class: u8,
+        subclass: u8,
+        protocol: u8,
+        vendor: u16,
+        product: u16,
+        version: Optional16,
+    },
+    Disconnect,
+    Reset,
+    InterfaceTable {
+        count: u32,
+        rows: Part,
+    },
+    EndpointTable {
+        rows: Part,
+        max_packet: bool,
+        max_streams: bool,
+    },
+    SetConfiguration {
+        configuration: u8,
+    },
+    GetConfiguration,
+    ConfigurationStatus {
+        status: u8,
+        configuration: u8,
+    },
+    SetAlt {
+        interface: u8,
+        alt: u8,
+    },
+    GetAlt {
+        interface: u8,
+    },
+    AltStatus {
+        status: u8,
+        interface: u8,
+        alt: u8,
+    },
+    StartIso {
+        endpoint: Endpoint,
+        packets: u8,
+        urbs: u8,
+    },
+    StopIso {
+        endpoint: Endpoint,
+    },
+    IsoStatus {
+        status: u8,
+        endpoint: Endpoint,
+    },
+    StartInterrupt {
+        endpoint: Endpoint,
+    },
+    StopInterrupt {
+        endpoint: Endpoint,
+    },
+    InterruptStatus {
+        status: u8,
+        endpoint: Endpoint,
+    },
+    AllocStreams {
+        mask: u32,
+        count: u32,
+    },
+    FreeStreams {
+        mask: u32,
+    },
+    StreamsStatus {
+        mask: u32,
+        count: u32,
+        status: u8,
+    },
+    Cancel,
+    FilterReject,
+    Filter {
+        string: Part,
+    },
+    DisconnectAck,
+    StartBulkReceiving {
+        stream: u32,
+        bytes: u32,
+        endpoint: Endpoint,
+        transfers: u8,
+    },
+    StopBulkReceiving {
+        stream: u32,
+        endpoint: Endpoint,
+    },
+    BulkReceivingStatus {
+        stream: u32,
+        endpoint: Endpoint,
+        status: u8,
+    },
+    Control {
+        endpoint: Endpoint,
+        request: u8,
+        requesttype: u8,
+        status: u8,
+        value: u16,
+        index: u16,
+        length: u16,
+        data: Part,
+    },
+    Bulk {
+        endpoint: Endpoint,
+        status: u8,
+        length: u32,
+        stream: u32,
+        data: Part,
+    },
+    Iso {
+        endpoint: Endpoint,
+        status: u8,
+        length: u16,
+        data: Part,
+    },
+    Interrupt {
+        endpoint: Endpoint,
+        status: u8,
+        length: u16,
+        data: Part,
+    },
+    BufferedBulk {
+        stream: u32,
+        length: u32,
+        endpoint: Endpoint,
+        status: u8,
+        data: Part,
+    },
+}
+
+// One of the 32 interfaces of an interface table.
+pub struct InterfaceRow {
+    pub number: u8,
+    pub class: u8,
+    pub subclass: u8,
+    pub protocol: u8,
+}
+
+// One of the 32 rows of an endpoint table.
+pub struct EndpointRow {
+    pub kind: u8,
+    pub interval: u8,
+    pub interface: u8,
+    pub max_packet: Optional16,
+    pub max_streams: Optional32,
+}
+
+// The bytes that a part names, as far as the body has them.
+pub fn part_of(body: &[u8], p: Part) -> &[u8]
+    ensures { λ r. ⌜ now r ≡ inPart p (now (body .entry)) ⌝ }
+{
+    let a = p.start;
+    let e = p.end;
+    part(body, a, e)
+}

@@ -1,0 +1,3 @@
+pub mod Cut
+pub mod Wire
+pub mod Prefix

@@ -1,0 +1,1 @@
+// Definitions and theorems only, in specs/: usbredir packets are a wire layer of the crate roundtrip, and have its laws.
