@@ -67,11 +67,6 @@ abbrev pub typePlace : List ℕ → ℕ → ℕ → ℕ → ℕ
 typePlace rows zero i next = next
 typePlace rows (suc n) i next = cond (typeOk i (le 1 rows i)) (typePlace rows n (suc i) next) i
 
--- n bytes of a body whose fields take so many
-abbrev pub isSized : ℕ → ℕ → ℕ → ℕ → Bool
-isSized slot fields payload n =
-    cond (eqb slot 0) (leb 64 n && leb n 96 && eqb (n % 4) 0) (cond (eqb slot 23) (leb 1 n) (eqb n (fields + payload)))
-
 abbrev pub helloFacts : ℕ → Part → List ℕ → Facts
 helloFacts id rest body = factsOf 0 0 rest 64 0 false (cond (ltb (zeroAt (inPart rest body)) 64) (noId id) 0)
 

@@ -1,13 +1,15 @@
 // The wire checks of one packet: what each kind's rules say of its fields, and the number.
 ghost use mathlib.Core.Path.{_≡_};
 ghost use mathlib.Core.Bool.{cond, not, _&&_, _||_, true, false};
-ghost use Prim.Native.Nat.{_+_, _≤_, _<_, _/_};
+ghost use Prim.Native.Nat.{_+_, _≤_, _/_};
 ghost use lib.ListN.{length};
 ghost use lib.Dec.{leb, eqb};
+ghost use Rattle.number.specs.Little.{le};
+ghost use Rattle.number.specs.Bits.{hasBit};
 ghost use Rattle.header.specs.Link.{sharedSet};
 ghost use Rattle.kinds.specs.Number.{isGuest, onward, addressOk, zeroAt, inOrder, wireNumber};
 ghost use Rattle.packet.specs.Packet.{contentOf};
-ghost use Rattle.rules.specs.Facts.{Shows, factsOf, isGiven, typePlace, isSized, noId};
+ghost use Rattle.rules.specs.Facts.{Shows, factsOf, isGiven, typePlace, mayFollow, noId, typeOk, helloFacts, connectFacts, endpointFacts, filterFacts, controlFacts, bulkFacts, isoFacts, interruptFacts, bufferedFacts};
 use endpoint::Endpoint;
 use endpoint::is_address;
 use endpoint::is_in;
@@ -21,6 +23,7 @@ use number::choose;
 use number::get8;
 use number::get32;
 use number::has_bit;
+use number::less;
 use packet::Optional16;
 use packet::Packet;
 use packet::Part;
@@ -113,7 +116,7 @@ fn zero_at(s: &[u8]) -> usize
 
 // The type of row i may be t.
 fn is_type(i: usize, t: u8) -> bool
-    ensures { λ r. ⌜ r ≡ Rattle.rules.specs.Facts.typeOk i t ⌝ }
+    ensures { λ r. ⌜ r ≡ typeOk i t ⌝ }
 {
     if i % 16 == 0 {
         t == 0
@@ -165,7 +168,7 @@ fn carrying(slot: usize, head: usize, rest: Part, payload: u32, bad: usize) -> F
 }
 
 fn hello(id: u64, rest: Part, body: &[u8]) -> Facts
-    ensures { λ r. ⌜ r ≡ Rattle.rules.specs.Facts.helloFacts id rest (now (body .entry)) ⌝ }
+    ensures { λ r. ⌜ r ≡ helloFacts id rest (now (body .entry)) ⌝ }
 {
     let rows = part_of(body, rest);
     Facts {
@@ -189,7 +192,7 @@ fn is_given(version: Optional16) -> bool
 }
 
 fn connect(id: u64, caps: u32, speed: u8, version: Optional16) -> Facts
-    ensures { λ r. ⌜ r ≡ Rattle.rules.specs.Facts.connectFacts id caps speed version ⌝ }
+    ensures { λ r. ⌜ r ≡ connectFacts id caps speed version ⌝ }
 {
     let given = is_given(version);
     let shared = has_bit(caps, 1);
@@ -220,7 +223,7 @@ fn interfaces(id: u64, count: u32, rest: Part) -> Facts
 }
 
 fn endpoints(id: u64, caps: u32, rest: Part, packets: bool, streams: bool, body: &[u8]) -> Facts
-    ensures { λ r. ⌜ r ≡ Rattle.rules.specs.Facts.endpointFacts id caps rest packets streams (now (body .entry)) ⌝ }
+    ensures { λ r. ⌜ r ≡ endpointFacts id caps rest packets streams (now (body .entry)) ⌝ }
 {
     let rows = part_of(body, rest);
     let four = has_bit(caps, 4);
@@ -242,7 +245,7 @@ fn endpoints(id: u64, caps: u32, rest: Part, packets: bool, streams: bool, body:
 }
 
 fn filter(id: u64, rest: Part, body: &[u8]) -> Facts
-    ensures { λ r. ⌜ r ≡ Rattle.rules.specs.Facts.filterFacts id rest (now (body .entry)) ⌝ }
+    ensures { λ r. ⌜ r ≡ filterFacts id rest (now (body .entry)) ⌝ }
 {
     let text = part_of(body, rest);
     carrying(
@@ -262,7 +265,7 @@ fn control(
     length: u16,
     rest: Part,
 ) -> Facts
-    ensures { λ r. ⌜ r ≡ Rattle.rules.specs.Facts.controlFacts from endpoint requesttype status length rest ⌝ }
+    ensures { λ r. ⌜ r ≡ controlFacts from endpoint requesttype status length rest ⌝ }
 {
     let last = checked(
         requesttype >> 7 == endpoint.0 >> 7,
@@ -287,7 +290,7 @@ fn bulk(
     stream: u32,
     rest: Part,
 ) -> Facts
-    ensures { λ r. ⌜ r ≡ Rattle.rules.specs.Facts.bulkFacts from caps endpoint status length stream rest ⌝ }
+    ensures { λ r. ⌜ r ≡ bulkFacts from caps endpoint status length stream rest ⌝ }
 {
     let wide = has_bit(caps, 6);
     let over = 65535 < length;
@@ -304,7 +307,7 @@ fn bulk(
 }
 
 fn iso(from: Side, endpoint: Endpoint, status: u8, length: u16, rest: Part) -> Facts
-    ensures { λ r. ⌜ r ≡ Rattle.rules.specs.Facts.isoFacts from endpoint status length rest ⌝ }
+    ensures { λ r. ⌜ r ≡ isoFacts from endpoint status length rest ⌝ }
 {
     let ok = is_address(endpoint) & is_onward(from, endpoint);
     carrying(
@@ -317,7 +320,7 @@ fn iso(from: Side, endpoint: Endpoint, status: u8, length: u16, rest: Part) -> F
 }
 
 fn interrupt(from: Side, endpoint: Endpoint, status: u8, length: u16, rest: Part) -> Facts
-    ensures { λ r. ⌜ r ≡ Rattle.rules.specs.Facts.interruptFacts from endpoint status length rest ⌝ }
+    ensures { λ r. ⌜ r ≡ interruptFacts from endpoint status length rest ⌝ }
 {
     let ok = is_address(endpoint) & (!is_guest(from) | is_onward(from, endpoint));
     carrying(
@@ -330,7 +333,7 @@ fn interrupt(from: Side, endpoint: Endpoint, status: u8, length: u16, rest: Part
 }
 
 fn buffered_bulk(from: Side, length: u32, endpoint: Endpoint, status: u8, rest: Part) -> Facts
-    ensures { λ r. ⌜ r ≡ Rattle.rules.specs.Facts.bufferedFacts from length endpoint status rest ⌝ }
+    ensures { λ r. ⌜ r ≡ bufferedFacts from length endpoint status rest ⌝ }
 {
     carrying(
         32,
@@ -342,7 +345,7 @@ fn buffered_bulk(from: Side, length: u32, endpoint: Endpoint, status: u8, rest: 
 }
 
 // The rules of each kind, as document 01 has them.
-pub fn facts(from: Side, caps: u32, id: u64, p: Packet, body: &[u8]) -> Facts
+pub fn facts_of(from: Side, caps: u32, id: u64, p: Packet, body: &[u8]) -> Facts
     ensures { λ r. ⌜ Shows from caps id p (now (body .entry)) r ⌝ }
 {
     match p {
@@ -461,4 +464,71 @@ pub fn facts(from: Side, caps: u32, id: u64, p: Packet, body: &[u8]) -> Facts
             data,
         } => buffered_bulk(from, length, endpoint, status, data),
     }
+}
+
+// n bytes may follow the fields.
+fn may_follow(slot: usize, payload: u32, n: usize) -> bool
+    ensures { λ r. ⌜ r ≡ mayFollow slot payload n ⌝ }
+{
+    match slot {
+        0 => (n <= 32) & (n % 4 == 0),
+        23 => 1 <= n,
+        _ => n == payload as usize,
+    }
+}
+
+// 22 for an id: "a non-hello's id over 32 bits without bit 5".
+pub fn is_wide(slot: usize, caps: u32, id: u64) -> bool
+    ensures { λ r. ⌜ r ≡ (not (eqb slot 0) && not (hasBit caps 5) && leb 4294967296 id) ⌝ }
+{
+    (slot != 0) & !has_bit(caps, 5) & (4294967296 <= id)
+}
+
+// 13: a hello's first word, behind its version, has bit 0 without bit 4.
+fn offers_streams_alone(slot: usize, rows: &[u8], at: usize) -> bool
+    ensures { λ r. ⌜ r ≡ (eqb slot 0 && (hasBit (le 4 (now (rows .entry)) at) 0 && not (hasBit (le 4 (now (rows .entry)) at) 4))) ⌝ }
+{
+    let word = get32(rows, at);
+    (slot == 0) & (has_bit(word, 0) & !has_bit(word, 4))
+}
+
+// The first of 21 to 24 that holds, then 13.
+pub fn in_order(sender: bool, shared: bool, sized: bool, field: bool, streams: bool) -> u8
+    ensures { λ r. ⌜ r ≡ inOrder sender shared sized field streams ⌝ }
+{
+    if sender {
+        return 21;
+    }
+    if shared {
+        return 22;
+    }
+    if sized {
+        return 23;
+    }
+    if field {
+        return 24;
+    }
+    if streams { 13 } else { 0 }
+}
+
+// The wire checks from 20 up, of a packet with its body: reader and writer alike.
+pub fn wire_number(l: Link, id: u64, p: Packet, body: &[u8]) -> u8
+    ensures { λ r. ⌜ r ≡ wireNumber l (contentOf (sharedSet l) id p (now (body .entry))) ⌝ }
+{
+    let from = l.sender;
+    let caps = shared_set(l);
+    let f = facts_of(from, caps, id, p, body);
+    let slot = f.slot;
+    let table = f.table;
+    let rest = f.rest;
+    let rows = part_of(body, rest);
+    let n = rows.len();
+    let sized = (table <= n) & may_follow(slot, f.payload, less(n, table));
+    in_order(
+        !may_send(slot, from),
+        !is_shared(slot, caps) | f.surplus | is_wide(slot, caps, id),
+        !sized,
+        f.bad != 65536,
+        offers_streams_alone(slot, rows, table),
+    )
 }

@@ -1,0 +1,263 @@
+-- Each kind's reading says what the table says: a law for each variant, and how an arm of the code cites it.
+-- Assumes nothing.
+use Prim.Native.Nat.{ℕ, zero, suc, _+_, _*_, _/_, _%_, _≤_, _<_}
+use native.Mathlib.Omega.{arith}
+use mathlib.Core.Path.{_≡_, refl, sym, ap, subst, _∙_}
+use mathlib.Core.Bool.{Bool, true, false, cond, _&&_, _||_}
+use mathlib.Core.List.{List, [], _∷_}
+use mathlib.Core.Option.{none}
+use lib.ListN.{length, take, drop, drop-of-length-le}
+use lib.Seq.{take-length, drop-drop}
+use lib.Dec.{leb, ltb}
+use borrow.Author.Tests.{le-leb, le-ltb}
+use Rattle.number.specs.Little.{le}
+use Rattle.number.specs.Bits.{hasBit}
+use Rattle.kinds.specs.Table.{kinds, kindAt}
+use Rattle.kinds.specs.Content.{Value, one, shared, size, split}
+use Rattle.kinds.specs.Codec.{layout, contentAt}
+use Rattle.kinds.specs.Laws.{split-full}
+use Rattle.packet.specs.declared.Packet.{Packet}
+use Rattle.packet.specs.declared.Packet.the-variants.{Hello, Connect, Disconnect, Reset, InterfaceTable, EndpointTable, SetConfiguration, GetConfiguration, ConfigurationStatus, SetAlt, GetAlt, AltStatus, StartIso, StopIso, IsoStatus, StartInterrupt, StopInterrupt, InterruptStatus, AllocStreams, FreeStreams, StreamsStatus, Cancel, FilterReject, Filter, DisconnectAck, StartBulkReceiving, StopBulkReceiving, BulkReceivingStatus, Control, Bulk, Iso, Interrupt, BufferedBulk}
+use Rattle.packet.specs.Packet.{contentOf, optional, high, said, carrying}
+use Rattle.decoder.specs.Body.{Fits, ReadsBody, optionalOf, bulkCount}
+
+none-left : (body : List ℕ) (n : ℕ) → length body ≡ n → drop n body ≡ []
+none-left body n e = let h : length body ≤ n = omega (arith, e) in drop-of-length-le body h
+
+pub disconnect : (caps : ℕ) (body : List ℕ) → Fits caps 2 body → ReadsBody caps 2 body Disconnect
+unfolding kinds layout contentOf contentAt
+disconnect caps body f =
+    record { content = λ id i. record { kind = 2; id = id; fields = sym (split-full (shared caps) (kindAt 2 .fields) body (f .there)) i; rest = sym (none-left body 0 (f .exact refl)) i }; part = refl }
+
+pub reset : (caps : ℕ) (body : List ℕ) → Fits caps 3 body → ReadsBody caps 3 body Reset
+unfolding kinds layout contentOf contentAt
+reset caps body f =
+    record { content = λ id i. record { kind = 3; id = id; fields = sym (split-full (shared caps) (kindAt 3 .fields) body (f .there)) i; rest = sym (none-left body 0 (f .exact refl)) i }; part = refl }
+
+pub set-configuration : (caps : ℕ) (body : List ℕ) → Fits caps 6 body → ReadsBody caps 6 body (SetConfiguration (le 1 body 0))
+unfolding kinds layout contentOf contentAt
+set-configuration caps body f =
+    record { content = λ id i. record { kind = 6; id = id; fields = sym (split-full (shared caps) (kindAt 6 .fields) body (f .there)) i; rest = sym (none-left body 1 (f .exact refl)) i }; part = refl }
+
+pub get-configuration : (caps : ℕ) (body : List ℕ) → Fits caps 7 body → ReadsBody caps 7 body GetConfiguration
+unfolding kinds layout contentOf contentAt
+get-configuration caps body f =
+    record { content = λ id i. record { kind = 7; id = id; fields = sym (split-full (shared caps) (kindAt 7 .fields) body (f .there)) i; rest = sym (none-left body 0 (f .exact refl)) i }; part = refl }
+
+pub configuration-status : (caps : ℕ) (body : List ℕ) → Fits caps 8 body → ReadsBody caps 8 body (ConfigurationStatus (le 1 body 0) (le 1 body 1))
+unfolding kinds layout contentOf contentAt
+configuration-status caps body f =
+    record { content = λ id i. record { kind = 8; id = id; fields = sym (split-full (shared caps) (kindAt 8 .fields) body (f .there)) i; rest = sym (none-left body 2 (f .exact refl)) i }; part = refl }
+
+pub set-alt : (caps : ℕ) (body : List ℕ) → Fits caps 9 body → ReadsBody caps 9 body (SetAlt (le 1 body 0) (le 1 body 1))
+unfolding kinds layout contentOf contentAt
+set-alt caps body f =
+    record { content = λ id i. record { kind = 9; id = id; fields = sym (split-full (shared caps) (kindAt 9 .fields) body (f .there)) i; rest = sym (none-left body 2 (f .exact refl)) i }; part = refl }
+
+pub get-alt : (caps : ℕ) (body : List ℕ) → Fits caps 10 body → ReadsBody caps 10 body (GetAlt (le 1 body 0))
+unfolding kinds layout contentOf contentAt
+get-alt caps body f =
+    record { content = λ id i. record { kind = 10; id = id; fields = sym (split-full (shared caps) (kindAt 10 .fields) body (f .there)) i; rest = sym (none-left body 1 (f .exact refl)) i }; part = refl }
+
+pub alt-status : (caps : ℕ) (body : List ℕ) → Fits caps 11 body → ReadsBody caps 11 body (AltStatus (le 1 body 0) (le 1 body 1) (le 1 body 2))
+unfolding kinds layout contentOf contentAt
+alt-status caps body f =
+    record { content = λ id i. record { kind = 11; id = id; fields = sym (split-full (shared caps) (kindAt 11 .fields) body (f .there)) i; rest = sym (none-left body 3 (f .exact refl)) i }; part = refl }
+
+pub start-iso : (caps : ℕ) (body : List ℕ) → Fits caps 12 body → ReadsBody caps 12 body (StartIso (record { 0 = le 1 body 0 }) (le 1 body 1) (le 1 body 2))
+unfolding kinds layout contentOf contentAt
+start-iso caps body f =
+    record { content = λ id i. record { kind = 12; id = id; fields = sym (split-full (shared caps) (kindAt 12 .fields) body (f .there)) i; rest = sym (none-left body 3 (f .exact refl)) i }; part = refl }
+
+pub stop-iso : (caps : ℕ) (body : List ℕ) → Fits caps 13 body → ReadsBody caps 13 body (StopIso (record { 0 = le 1 body 0 }))
+unfolding kinds layout contentOf contentAt
+stop-iso caps body f =
+    record { content = λ id i. record { kind = 13; id = id; fields = sym (split-full (shared caps) (kindAt 13 .fields) body (f .there)) i; rest = sym (none-left body 1 (f .exact refl)) i }; part = refl }
+
+pub iso-status : (caps : ℕ) (body : List ℕ) → Fits caps 14 body → ReadsBody caps 14 body (IsoStatus (le 1 body 0) (record { 0 = le 1 body 1 }))
+unfolding kinds layout contentOf contentAt
+iso-status caps body f =
+    record { content = λ id i. record { kind = 14; id = id; fields = sym (split-full (shared caps) (kindAt 14 .fields) body (f .there)) i; rest = sym (none-left body 2 (f .exact refl)) i }; part = refl }
+
+pub start-interrupt : (caps : ℕ) (body : List ℕ) → Fits caps 15 body → ReadsBody caps 15 body (StartInterrupt (record { 0 = le 1 body 0 }))
+unfolding kinds layout contentOf contentAt
+start-interrupt caps body f =
+    record { content = λ id i. record { kind = 15; id = id; fields = sym (split-full (shared caps) (kindAt 15 .fields) body (f .there)) i; rest = sym (none-left body 1 (f .exact refl)) i }; part = refl }
+
+pub stop-interrupt : (caps : ℕ) (body : List ℕ) → Fits caps 16 body → ReadsBody caps 16 body (StopInterrupt (record { 0 = le 1 body 0 }))
+unfolding kinds layout contentOf contentAt
+stop-interrupt caps body f =
+    record { content = λ id i. record { kind = 16; id = id; fields = sym (split-full (shared caps) (kindAt 16 .fields) body (f .there)) i; rest = sym (none-left body 1 (f .exact refl)) i }; part = refl }
+
+pub interrupt-status : (caps : ℕ) (body : List ℕ) → Fits caps 17 body → ReadsBody caps 17 body (InterruptStatus (le 1 body 0) (record { 0 = le 1 body 1 }))
+unfolding kinds layout contentOf contentAt
+interrupt-status caps body f =
+    record { content = λ id i. record { kind = 17; id = id; fields = sym (split-full (shared caps) (kindAt 17 .fields) body (f .there)) i; rest = sym (none-left body 2 (f .exact refl)) i }; part = refl }
+
+pub alloc-streams : (caps : ℕ) (body : List ℕ) → Fits caps 18 body → ReadsBody caps 18 body (AllocStreams (le 4 body 0) (le 4 body 4))
+unfolding kinds layout contentOf contentAt
+alloc-streams caps body f =
+    record { content = λ id i. record { kind = 18; id = id; fields = sym (split-full (shared caps) (kindAt 18 .fields) body (f .there)) i; rest = sym (none-left body 8 (f .exact refl)) i }; part = refl }
+
+pub free-streams : (caps : ℕ) (body : List ℕ) → Fits caps 19 body → ReadsBody caps 19 body (FreeStreams (le 4 body 0))
+unfolding kinds layout contentOf contentAt
+free-streams caps body f =
+    record { content = λ id i. record { kind = 19; id = id; fields = sym (split-full (shared caps) (kindAt 19 .fields) body (f .there)) i; rest = sym (none-left body 4 (f .exact refl)) i }; part = refl }
+
+pub streams-status : (caps : ℕ) (body : List ℕ) → Fits caps 20 body → ReadsBody caps 20 body (StreamsStatus (le 4 body 0) (le 4 body 4) (le 1 body 8))
+unfolding kinds layout contentOf contentAt
+streams-status caps body f =
+    record { content = λ id i. record { kind = 20; id = id; fields = sym (split-full (shared caps) (kindAt 20 .fields) body (f .there)) i; rest = sym (none-left body 9 (f .exact refl)) i }; part = refl }
+
+pub cancel : (caps : ℕ) (body : List ℕ) → Fits caps 21 body → ReadsBody caps 21 body Cancel
+unfolding kinds layout contentOf contentAt
+cancel caps body f =
+    record { content = λ id i. record { kind = 21; id = id; fields = sym (split-full (shared caps) (kindAt 21 .fields) body (f .there)) i; rest = sym (none-left body 0 (f .exact refl)) i }; part = refl }
+
+pub filter-reject : (caps : ℕ) (body : List ℕ) → Fits caps 22 body → ReadsBody caps 22 body FilterReject
+unfolding kinds layout contentOf contentAt
+filter-reject caps body f =
+    record { content = λ id i. record { kind = 22; id = id; fields = sym (split-full (shared caps) (kindAt 22 .fields) body (f .there)) i; rest = sym (none-left body 0 (f .exact refl)) i }; part = refl }
+
+pub filter : (caps : ℕ) (body : List ℕ) → Fits caps 23 body → ReadsBody caps 23 body (Filter (record { start = 0; end = length body }))
+unfolding kinds layout contentOf contentAt
+filter caps body f =
+    let e : drop 0 (take (length body) body) ≡ drop 0 body = ap (drop 0) (take-length body) in
+    record { content = λ id i. record { kind = 23; id = id; fields = sym (split-full (shared caps) (kindAt 23 .fields) body (f .there)) i; rest = e i }; part = refl }
+
+pub disconnect-ack : (caps : ℕ) (body : List ℕ) → Fits caps 24 body → ReadsBody caps 24 body DisconnectAck
+unfolding kinds layout contentOf contentAt
+disconnect-ack caps body f =
+    record { content = λ id i. record { kind = 24; id = id; fields = sym (split-full (shared caps) (kindAt 24 .fields) body (f .there)) i; rest = sym (none-left body 0 (f .exact refl)) i }; part = refl }
+
+pub start-bulk-receiving : (caps : ℕ) (body : List ℕ) → Fits caps 25 body → ReadsBody caps 25 body (StartBulkReceiving (le 4 body 0) (le 4 body 4) (record { 0 = le 1 body 8 }) (le 1 body 9))
+unfolding kinds layout contentOf contentAt
+start-bulk-receiving caps body f =
+    record { content = λ id i. record { kind = 25; id = id; fields = sym (split-full (shared caps) (kindAt 25 .fields) body (f .there)) i; rest = sym (none-left body 10 (f .exact refl)) i }; part = refl }
+
+pub stop-bulk-receiving : (caps : ℕ) (body : List ℕ) → Fits caps 26 body → ReadsBody caps 26 body (StopBulkReceiving (le 4 body 0) (record { 0 = le 1 body 4 }))
+unfolding kinds layout contentOf contentAt
+stop-bulk-receiving caps body f =
+    record { content = λ id i. record { kind = 26; id = id; fields = sym (split-full (shared caps) (kindAt 26 .fields) body (f .there)) i; rest = sym (none-left body 5 (f .exact refl)) i }; part = refl }
+
+pub bulk-receiving-status : (caps : ℕ) (body : List ℕ) → Fits caps 27 body → ReadsBody caps 27 body (BulkReceivingStatus (le 4 body 0) (record { 0 = le 1 body 4 }) (le 1 body 5))
+unfolding kinds layout contentOf contentAt
+bulk-receiving-status caps body f =
+    record { content = λ id i. record { kind = 27; id = id; fields = sym (split-full (shared caps) (kindAt 27 .fields) body (f .there)) i; rest = sym (none-left body 6 (f .exact refl)) i }; part = refl }
+
+pub control : (caps : ℕ) (body : List ℕ) → Fits caps 28 body → ReadsBody caps 28 body (Control (record { 0 = le 1 body 0 }) (le 1 body 1) (le 1 body 2) (le 1 body 3) (le 2 body 4) (le 2 body 6) (le 2 body 8) (record { start = 10; end = length body }))
+unfolding kinds layout contentOf contentAt
+control caps body f =
+    let e : drop 10 (take (length body) body) ≡ drop 10 body = ap (drop 10) (take-length body) in
+    record { content = λ id i. record { kind = 100; id = id; fields = sym (split-full (shared caps) (kindAt 28 .fields) body (f .there)) i; rest = e i }; part = refl }
+
+pub iso : (caps : ℕ) (body : List ℕ) → Fits caps 30 body → ReadsBody caps 30 body (Iso (record { 0 = le 1 body 0 }) (le 1 body 1) (le 2 body 2) (record { start = 4; end = length body }))
+unfolding kinds layout contentOf contentAt
+iso caps body f =
+    let e : drop 4 (take (length body) body) ≡ drop 4 body = ap (drop 4) (take-length body) in
+    record { content = λ id i. record { kind = 102; id = id; fields = sym (split-full (shared caps) (kindAt 30 .fields) body (f .there)) i; rest = e i }; part = refl }
+
+pub interrupt : (caps : ℕ) (body : List ℕ) → Fits caps 31 body → ReadsBody caps 31 body (Interrupt (record { 0 = le 1 body 0 }) (le 1 body 1) (le 2 body 2) (record { start = 4; end = length body }))
+unfolding kinds layout contentOf contentAt
+interrupt caps body f =
+    let e : drop 4 (take (length body) body) ≡ drop 4 body = ap (drop 4) (take-length body) in
+    record { content = λ id i. record { kind = 103; id = id; fields = sym (split-full (shared caps) (kindAt 31 .fields) body (f .there)) i; rest = e i }; part = refl }
+
+pub buffered-bulk : (caps : ℕ) (body : List ℕ) → Fits caps 32 body → ReadsBody caps 32 body (BufferedBulk (le 4 body 0) (le 4 body 4) (record { 0 = le 1 body 8 }) (le 1 body 9) (record { start = 10; end = length body }))
+unfolding kinds layout contentOf contentAt
+buffered-bulk caps body f =
+    let e : drop 10 (take (length body) body) ≡ drop 10 body = ap (drop 10) (take-length body) in
+    record { content = λ id i. record { kind = 104; id = id; fields = sym (split-full (shared caps) (kindAt 32 .fields) body (f .there)) i; rest = e i }; part = refl }
+
+-- ---- the kinds with a field that may be absent, and the tables
+
+optional-value : (b : Bool) (x : ℕ) → optional (optionalOf b x) ≡ cond b (one x) none
+optional-value true x = refl
+optional-value false x = refl
+
+pub connect : (caps : ℕ) (body : List ℕ) → Fits caps 1 body
+    → ReadsBody caps 1 body (Connect (le 1 body 0) (le 1 body 1) (le 1 body 2) (le 1 body 3) (le 2 body 4) (le 2 body 6) (optionalOf (hasBit caps 1) (le 2 body 8)))
+unfolding kinds layout contentOf contentAt
+connect caps body f =
+    let v : Value = optional (optionalOf (hasBit caps 1) (le 2 body 8)) in
+    let e : v ≡ cond (hasBit caps 1) (one (le 2 body 8)) none = optional-value (hasBit caps 1) (le 2 body 8) in
+    record {
+      content = λ id.
+          (λ i. record { kind = 1; id = id; fields = one (le 1 body 0) ∷ one (le 1 body 1) ∷ one (le 1 body 2) ∷ one (le 1 body 3) ∷ one (le 2 body 4) ∷ one (le 2 body 6) ∷ e i ∷ []; rest = [] })
+          ∙ (λ i. record { kind = 1; id = id; fields = sym (split-full (shared caps) (kindAt 1 .fields) body (f .there)) i; rest = sym (none-left body (size (shared caps) (kindAt 1 .fields)) (f .exact refl)) i });
+      part = refl;
+    }
+
+pub hello : (caps : ℕ) (body : List ℕ) → Fits caps 0 body → ReadsBody caps 0 body (Hello (record { start = 0; end = length body }))
+unfolding kinds layout contentOf contentAt
+hello caps body f = record { content = λ id. rw (take-length body); part = refl }
+
+pub interface-table : (caps : ℕ) (body : List ℕ) → Fits caps 4 body → ReadsBody caps 4 body (InterfaceTable (le 4 body 0) (record { start = 4; end = length body }))
+unfolding kinds layout contentOf contentAt
+interface-table caps body f =
+    let l : leb 4 (length body) ≡ true = le-leb 4 (length body) (omega (arith, f .there)) in
+    let rows : take (length body) body ≡ body = take-length body in
+    record {
+      content = λ id.
+          (λ i. said id (carrying 4 (one (le 4 body 0) ∷ []) (record { start = 4; end = length body })) (drop 4 (rows i)))
+          ∙ rw l (λ i. record { kind = 4; id = id; fields = one (le 4 body 0) ∷ split (shared caps) (drop 1 (kindAt 4 .fields)) (drop 4 body); rest = drop-drop 128 4 body i });
+      part = refl;
+    }
+
+pub endpoint-table : (caps : ℕ) (body : List ℕ) → Fits caps 5 body
+    → ReadsBody caps 5 body (EndpointTable (record { start = 0; end = length body }) (hasBit caps 4) (hasBit caps 4 && hasBit caps 0))
+unfolding kinds layout contentOf contentAt
+endpoint-table caps body f = record { content = λ id. rw (take-length body); part = refl }
+
+count-low : (b : Bool) (low x : ℕ) → low < 65536 → cond b (low + 65536 * x) low % 65536 ≡ low
+count-low true low x h = omega arith
+count-low false low x h = omega arith
+
+count-high : (b : Bool) (low x : ℕ) → low < 65536 → cond (b || ltb 65535 (cond b (low + 65536 * x) low)) (one (cond b (low + 65536 * x) low / 65536)) none ≡ cond b (one x) none
+count-high true low x h = let e : (low + 65536 * x) / 65536 ≡ x = omega arith in ap one e
+count-high false low x h = rw (le-ltb 65535 low (omega arith))
+
+size-bulk : (b : Bool) → cond b 10 8 ≡ 1 + (1 + (2 + (4 + (cond b 2 0 + 0))))
+size-bulk true = refl
+size-bulk false = refl
+
+pub bulk : (caps : ℕ) (body : List ℕ) → le 2 body 2 < 65536 → Fits caps 29 body
+    → ReadsBody caps 29 body (Bulk (record { 0 = le 1 body 0 }) (le 1 body 1) (bulkCount caps body) (le 4 body 4) (record { start = cond (hasBit caps 6) 10 8; end = length body }))
+unfolding kinds layout contentOf contentAt
+bulk caps body h f =
+    let b : Bool = hasBit caps 6 in
+    let lo : bulkCount caps body % 65536 ≡ le 2 body 2 = count-low b (le 2 body 2) (le 2 body 8) h in
+    let hi : high caps (bulkCount caps body) ≡ cond b (one (le 2 body 8)) none = count-high b (le 2 body 2) (le 2 body 8) h in
+    let d : drop (cond b 10 8) (take (length body) body) ≡ drop (size (shared caps) (kindAt 29 .fields)) body = ap (drop (cond b 10 8)) (take-length body) ∙ ap (λ (n : ℕ). drop n body) (size-bulk b) in
+    record {
+      content = λ id.
+          (λ i. record { kind = 101; id = id; fields = one (le 1 body 0) ∷ one (le 1 body 1) ∷ one (lo i) ∷ one (le 4 body 4) ∷ hi i ∷ []; rest = drop (cond b 10 8) (take (length body) body) })
+          ∙ (λ i. record { kind = 101; id = id; fields = sym (split-full (shared caps) (kindAt 29 .fields) body (f .there)) i; rest = d i });
+      part = λ i. record { start = size-bulk b i; end = length body };
+    }
+
+-- ---- a reading by a slot that is known
+
+pub reads-by : {caps slot k : ℕ} {body : List ℕ} {p q : Packet} → (Fits caps k body → ReadsBody caps k body q) → Fits caps slot body → slot ≡ k → p ≡ q
+    → ReadsBody caps slot body p
+reads-by {caps} {slot} {k} {body} {p} {q} law f e r =
+    subst (λ (x : Packet). ReadsBody caps slot body x) (sym r) (subst (λ (n : ℕ). Fits caps n body → ReadsBody caps n body q) (sym e) law f)
+
+-- none of the numbers below n
+abbrev pub NoneBelow : ℕ → ℕ → Type 0
+NoneBelow slot zero = Unit {0}
+NoneBelow slot (suc n) = NoneBelow slot n × (slot ≡ n → ⊥)
+
+at-least : (slot n : ℕ) → NoneBelow slot n → n ≤ slot
+at-least slot zero h = omega arith
+at-least slot (suc n) h =
+    let l : n ≤ slot = at-least slot n (h .0) in
+    let m : slot ≡ n → ⊥ = h .1 in
+    omega arith
+
+-- the slot that is left is the last
+pub last : {slot : ℕ} → slot < 33 → NoneBelow slot 32 → slot ≡ 32
+last {slot} h b = both slot h (at-least slot 32 b)
+  where
+    both : (s : ℕ) → s < 33 → 32 ≤ s → s ≡ 32
+    both s h l = omega arith

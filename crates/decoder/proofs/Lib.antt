@@ -1,0 +1,4 @@
+pub mod EachKind
+pub mod Slots
+pub mod WrongSize
+pub mod Told

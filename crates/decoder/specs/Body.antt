@@ -1,0 +1,71 @@
+-- The steps of reading as the code takes them: a body of a known kind, and one that does not fit its fields.
+-- Assumes nothing: these are definitions.
+use Prim.Native.Nat.{ℕ, _+_, _*_, _≤_, _<_}
+use mathlib.Core.Path.{_≡_}
+use mathlib.Core.Bool.{Bool, true, false, cond, not, _&&_, _||_}
+use mathlib.Core.List.{List}
+use mathlib.Core.Option.{none, some}
+use lib.ListN.{length}
+use lib.Dec.{eqb, leb}
+use Rattle.number.specs.Little.{le}
+use Rattle.number.specs.Bits.{hasBit}
+use Rattle.header.specs.declared.Header.{Header}
+use Rattle.header.specs.declared.Link.{Link}
+use Rattle.header.specs.Link.{sharedSet}
+use Rattle.kinds.specs.Table.{kindAt}
+use Rattle.kinds.specs.Content.{shared, size}
+use Rattle.kinds.specs.Number.{sends, inOrder, wireNumber}
+use Rattle.kinds.specs.Codec.{contentAt}
+use Rattle.packet.specs.declared.Optional16.{Optional16}
+use Rattle.packet.specs.declared.Optional16.the-variants.{Absent, Present}
+use Rattle.packet.specs.declared.Packet.{Packet}
+use Rattle.packet.specs.Packet.{shownOf, contentOf}
+use Rattle.decoder.specs.declared.Reading.{Reading}
+use Rattle.decoder.specs.Reading.{Told, carries, partAt}
+use Rattle.decoder.specs.declared.Reading.the-variants.{Refused, Passed}
+
+abbrev pub optionalOf : Bool → ℕ → Optional16
+optionalOf b x = cond b (Present x) Absent
+
+abbrev pub bulkCount : ℕ → List ℕ → ℕ
+bulkCount caps body = cond (hasBit caps 6) (le 2 body 2 + 65536 * le 2 body 8) (le 2 body 2)
+
+-- all fields are there, and nothing behind them where the kind has no part
+pub record Fits (caps slot : ℕ) (body : List ℕ) : Type 0 where
+  pub small : slot < 33
+  pub there : size (shared caps) (kindAt slot .fields) ≤ length body
+  pub exact : carries (kindAt slot) ≡ false → length body ≡ size (shared caps) (kindAt slot .fields)
+
+-- a packet says what the body says, and names its part
+pub record ReadsBody (caps slot : ℕ) (body : List ℕ) (p : Packet) : Type 0 where
+  pub content : (id : ℕ) → contentOf caps id p body ≡ contentAt caps (kindAt slot .number) id body
+  pub part : shownOf caps p .part ≡ partAt caps (kindAt slot) (length body)
+
+-- the number where the size is wrong
+abbrev pub misfitNumber : Link → ℕ → ℕ → ℕ
+misfitNumber l slot id =
+    inOrder (not (sends (kindAt slot .sender) (l .sender)))
+    (not (shared (sharedSet l) (kindAt slot .needs)) || (not (eqb slot 0) && not (hasBit (sharedSet l) 5) && leb 4294967296 id))
+    true false false
+
+-- what a reading of a body of a known kind tells
+abbrev pub toldBody : Link → List ℕ → Reading → Told
+toldBody l body (Refused n) = record { number = n; handed = none }
+toldBody l body (Passed h p) =
+    record {
+      number = 0;
+      handed = some (record { header = h; content = contentOf (sharedSet l) (h .id) p body; part = shownOf (sharedSet l) p .part });
+    }
+
+abbrev pub readBodyOf : Link → Header → ℕ → List ℕ → Told
+readBodyOf l h slot body =
+    record {
+      number = wireNumber l (contentAt (sharedSet l) (kindAt slot .number) (h .id) body);
+      handed =
+          cond (eqb (wireNumber l (contentAt (sharedSet l) (kindAt slot .number) (h .id) body)) 0)
+          (some (record { header = h; content = contentAt (sharedSet l) (kindAt slot .number) (h .id) body; part = partAt (sharedSet l) (kindAt slot) (length body) }))
+          none;
+    }
+
+pub record ReadsKind (l : Link) (h : Header) (slot : ℕ) (body : List ℕ) (r : Reading) : Type 0 where
+  pub tells : toldBody l body r ≡ readBodyOf l h slot body

@@ -1,0 +1,81 @@
+-- What a reading tells, for each of its cases: the number and, where it passed, the header, what the packet says,
+-- and the part of the body that it names.
+-- Assumes nothing: these are definitions.
+use Prim.Native.Nat.{ℕ}
+use mathlib.Core.Bool.{Bool, true, false, cond, not, _||_}
+use mathlib.Core.List.{List, [], _∷_}
+use mathlib.Core.Option.{Option, none, some}
+use lib.ListN.{length, drop}
+use lib.Dec.{eqb}
+use Rattle.header.specs.declared.Header.{Header}
+use Rattle.header.specs.declared.Link.{Link}
+use Rattle.header.specs.Link.{sharedSet}
+use Rattle.header.specs.Header.{headerOf, kindOf, headerSize}
+use Rattle.kinds.specs.Table.{Field, Tail, nothing, words, string, payload, payload-onward, Kind, kinds, none-such}
+use Rattle.kinds.specs.Content.{Content, shared, size, find}
+use Rattle.kinds.specs.Codec.{decode, readNumber}
+use Rattle.packet.specs.declared.Part.{Part}
+use Rattle.packet.specs.Packet.{shownOf, contentOf}
+use Rattle.decoder.specs.declared.Reading.{Reading}
+use Rattle.decoder.specs.declared.Reading.the-variants.{Refused, Passed}
+
+-- a packet that passed
+pub record Handed : Type 0 where
+  pub header : Header
+  pub content : Content
+  pub part : Part
+
+pub record Told : Type 0 where
+  pub number : ℕ
+  pub handed : Option Handed
+
+-- a packet's body stands behind its header
+abbrev pub told : Link → List ℕ → Reading → Told
+told l bytes (Refused n) = record { number = n; handed = none }
+told l bytes (Passed h p) =
+    record {
+      number = 0;
+      handed = some (record { header = h; content = contentOf (sharedSet l) (h .id) p (drop (h .size) bytes); part = shownOf (sharedSet l) p .part });
+    }
+
+-- ---- the part of the body that a packet of a kind names
+
+-- the fields that are one number each, before those that are many
+abbrev pub frontFields : List Field → List Field
+frontFields [] = []
+frontFields (f ∷ fs) = cond (eqb (f .times) 1) (f ∷ frontFields fs) []
+
+abbrev pub isNothing : Tail → Bool
+isNothing nothing = true
+isNothing words = false
+isNothing string = false
+isNothing payload = false
+isNothing payload-onward = false
+
+-- rows of a table, words, a string or data
+abbrev pub carries : Kind → Bool
+carries k = not (isNothing (k .tail)) || not (eqb (length (frontFields (k .fields))) (length (k .fields)))
+
+-- all that stands behind the front fields; an empty part where the kind has none
+abbrev pub partAt : ℕ → Kind → ℕ → Part
+partAt caps k n = cond (carries k) (record { start = size (shared caps) (frontFields (k .fields)); end = n }) (record { start = 0; end = 0 })
+
+abbrev pub kindOr : Option Kind → Kind
+kindOr none = none-such
+kindOr (some k) = k
+
+-- ---- what reading bytes has to tell
+
+unfoldable pub readOf : Link → List ℕ → Told
+readOf l bytes =
+    record {
+      number = readNumber l bytes;
+      handed =
+          cond (eqb (readNumber l bytes) 0)
+          (some (record {
+            header = headerOf l bytes;
+            content = decode l bytes;
+            part = partAt (sharedSet l) (kindOr (find (kindOf bytes) kinds)) (length (drop (headerSize l (kindOf bytes)) bytes));
+          }))
+          none;
+    }

@@ -1,0 +1,278 @@
+// Reading: the bytes of one whole packet to its number or its packet.
+ghost use mathlib.Core.Path.{_≡_};
+ghost use Prim.Native.Nat.{_<_, _^_};
+ghost use lib.ListN.{length};
+ghost use Rattle.number.specs.Little.{le};
+ghost use Rattle.kinds.specs.Table.{kindAt};
+ghost use Rattle.decoder.specs.Reading.{told, readOf, carries};
+ghost use Rattle.decoder.specs.Body.{Fits, ReadsBody, ReadsKind, optionalOf, bulkCount, misfitNumber};
+use endpoint::Endpoint;
+use header::Header;
+use header::Link;
+use header::header_number;
+use header::read_header;
+use header::shared_set;
+use kinds::fields_size;
+use kinds::is_shared;
+use kinds::may_send;
+use number::choose;
+use number::get8;
+use number::get16;
+use number::get32;
+use number::has_bit;
+use packet::Optional16;
+use packet::Packet;
+use packet::Part;
+use rules::in_order;
+use rules::is_wide;
+use rules::wire_number;
+
+// The number by which the bytes are refused, or the header and the packet that they are.
+pub enum Reading {
+    Refused(u8),
+    Passed(Header, Packet),
+}
+
+// The body from a place on.
+fn after(body: &[u8], at: usize) -> Part
+    ensures { λ r. ⌜ r ≡ record { start = at; end = length (now (body .entry)) } ⌝ }
+{
+    Part {
+        start: at,
+        end: body.len(),
+    }
+}
+
+fn optional16(b: bool, body: &[u8], at: usize) -> Optional16
+    ensures { λ r. ⌜ r ≡ optionalOf b (le 2 (now (body .entry)) at) ⌝ }
+{
+    if b {
+        Optional16::Present(get16(body, at))
+    } else {
+        Optional16::Absent
+    }
+}
+
+// "The bulk count is low + 65,536 times high, or low without bit 6."
+fn bulk_count(caps: u32, body: &[u8]) -> u32
+    ensures { λ r. ⌜ (r ≡ bulkCount caps (now (body .entry))) × (le 2 (now (body .entry)) 2 < 65536) ⌝ }
+{
+    let low = get16(body, 2) as u32;
+    if has_bit(caps, 6) {
+        low + 65536 * get16(body, 8) as u32
+    } else {
+        low
+    }
+}
+
+// The kind has a part of the body behind the fields that its packet holds as numbers.
+fn has_part(slot: usize) -> bool
+    requires { ⌜ slot < 33 ⌝ }
+    ensures { λ r. ⌜ r ≡ carries (kindAt slot) ⌝ }
+{
+    (slot == 0) | (slot == 4) | (slot == 5) | (slot == 23) | (28 <= slot)
+}
+
+// A body whose fields are all there, read by its kind.
+fn read_body(caps: u32, slot: usize, body: &[u8]) -> Packet
+    requires { ⌜ Fits caps slot (now body) ⌝ }
+    ensures { λ r. ⌜ ReadsBody caps slot (now (body .entry)) r ⌝ }
+{
+    match slot {
+        0 => Packet::Hello {
+            rest: after(body, 0),
+        },
+        1 => Packet::Connect {
+            speed: get8(body, 0),
+            class: get8(body, 1),
+            subclass: get8(body, 2),
+            protocol: get8(body, 3),
+            vendor: get16(body, 4),
+            product: get16(body, 6),
+            version: optional16(has_bit(caps, 1), body, 8),
+        },
+        2 => Packet::Disconnect,
+        3 => Packet::Reset,
+        4 => Packet::InterfaceTable {
+            count: get32(body, 0),
+            rows: after(body, 4),
+        },
+        5 => Packet::EndpointTable {
+            rows: after(body, 0),
+            max_packet: has_bit(caps, 4),
+            max_streams: has_bit(caps, 4) & has_bit(caps, 0),
+        },
+        6 => Packet::SetConfiguration {
+            configuration: get8(body, 0),
+        },
+        7 => Packet::GetConfiguration,
+        8 => Packet::ConfigurationStatus {
+            status: get8(body, 0),
+            configuration: get8(body, 1),
+        },
+        9 => Packet::SetAlt {
+            interface: get8(body, 0),
+            alt: get8(body, 1),
+        },
+        10 => Packet::GetAlt {
+            interface: get8(body, 0),
+        },
+        11 => Packet::AltStatus {
+            status: get8(body, 0),
+            interface: get8(body, 1),
+            alt: get8(body, 2),
+        },
+        12 => Packet::StartIso {
+            endpoint: Endpoint(get8(body, 0)),
+            packets: get8(body, 1),
+            urbs: get8(body, 2),
+        },
+        13 => Packet::StopIso {
+            endpoint: Endpoint(get8(body, 0)),
+        },
+        14 => Packet::IsoStatus {
+            status: get8(body, 0),
+            endpoint: Endpoint(get8(body, 1)),
+        },
+        15 => Packet::StartInterrupt {
+            endpoint: Endpoint(get8(body, 0)),
+        },
+        16 => Packet::StopInterrupt {
+            endpoint: Endpoint(get8(body, 0)),
+        },
+        17 => Packet::InterruptStatus {
+            status: get8(body, 0),
+            endpoint: Endpoint(get8(body, 1)),
+        },
+        18 => Packet::AllocStreams {
+            mask: get32(body, 0),
+            count: get32(body, 4),
+        },
+        19 => Packet::FreeStreams {
+            mask: get32(body, 0),
+        },
+        20 => Packet::StreamsStatus {
+            mask: get32(body, 0),
+            count: get32(body, 4),
+            status: get8(body, 8),
+        },
+        21 => Packet::Cancel,
+        22 => Packet::FilterReject,
+        23 => Packet::Filter {
+            string: after(body, 0),
+        },
+        24 => Packet::DisconnectAck,
+        25 => Packet::StartBulkReceiving {
+            stream: get32(body, 0),
+            bytes: get32(body, 4),
+            endpoint: Endpoint(get8(body, 8)),
+            transfers: get8(body, 9),
+        },
+        26 => Packet::StopBulkReceiving {
+            stream: get32(body, 0),
+            endpoint: Endpoint(get8(body, 4)),
+        },
+        27 => Packet::BulkReceivingStatus {
+            stream: get32(body, 0),
+            endpoint: Endpoint(get8(body, 4)),
+            status: get8(body, 5),
+        },
+        28 => Packet::Control {
+            endpoint: Endpoint(get8(body, 0)),
+            request: get8(body, 1),
+            requesttype: get8(body, 2),
+            status: get8(body, 3),
+            value: get16(body, 4),
+            index: get16(body, 6),
+            length: get16(body, 8),
+            data: after(body, 10),
+        },
+        29 => Packet::Bulk {
+            endpoint: Endpoint(get8(body, 0)),
+            status: get8(body, 1),
+            length: bulk_count(caps, body),
+            stream: get32(body, 4),
+            data: after(body, choose(has_bit(caps, 6), 10, 8)),
+        },
+        30 => Packet::Iso {
+            endpoint: Endpoint(get8(body, 0)),
+            status: get8(body, 1),
+            length: get16(body, 2),
+            data: after(body, 4),
+        },
+        31 => Packet::Interrupt {
+            endpoint: Endpoint(get8(body, 0)),
+            status: get8(body, 1),
+            length: get16(body, 2),
+            data: after(body, 4),
+        },
+        _ => Packet::BufferedBulk {
+            stream: get32(body, 0),
+            length: get32(body, 4),
+            endpoint: Endpoint(get8(body, 8)),
+            status: get8(body, 9),
+            data: after(body, 10),
+        },
+    }
+}
+
+// A body that lacks a field, or has more bytes than fields where nothing may follow: 23, or a number before it.
+// The second clause says only that an id is a u64, which a caller that takes it out of a header is not told.
+fn misfit(l: Link, slot: usize, id: u64) -> u8
+    ensures { λ r. ⌜ (r ≡ misfitNumber l slot id) × (id < 256 ^ 8) ⌝ }
+{
+    let caps = shared_set(l);
+    let from = l.sender;
+    in_order(
+        !may_send(slot, from),
+        !is_shared(slot, caps) | is_wide(slot, caps, id),
+        true,
+        false,
+        false,
+    )
+}
+
+// A body of a known kind behind its header.
+fn read_kind(l: Link, h: Header, slot: usize, body: &[u8]) -> Reading
+    requires { ⌜ slot < 33 ⌝ }
+    ensures { λ r. ⌜ ReadsKind l h slot (now (body .entry)) r ⌝ }
+{
+    let caps = shared_set(l);
+    let id = h.id;
+    let n = body.len();
+    let size = fields_size(slot, caps);
+    if (n < size) | (!has_part(slot) & (size < n)) {
+        return Reading::Refused(misfit(l, slot, id));
+    }
+    let p = read_body(caps, slot, body);
+    let number = wire_number(l, id, p, body);
+    if number == 0 {
+        Reading::Passed(h, p)
+    } else {
+        Reading::Refused(number)
+    }
+}
+
+// The bytes of one whole packet, as the sender's hellos let it be: 10 to 12 by the header, 23 where the bytes are not as many
+// as it says, else the wire checks.
+pub fn read(l: Link, bytes: &[u8]) -> Reading
+    ensures { λ r. ⌜ told l (now (bytes .entry)) r ≡ readOf l (now (bytes .entry)) ⌝ }
+{
+    let h = read_header(l, bytes);
+    let kind = h.kind;
+    let length = h.length as usize;
+    let size = h.size;
+    let number = header_number(l, kind, length);
+    if number != 0 {
+        return Reading::Refused(number);
+    }
+    if bytes.len() != size + length {
+        return Reading::Refused(23);
+    }
+    let body = &bytes[size..];
+    match kind {
+        0..=27 => read_kind(l, h, kind as usize, body),
+        100..=104 => read_kind(l, h, (kind - 72) as usize, body),
+        _ => Reading::Refused(20),
+    }
+}

@@ -1,2 +1,0 @@
--- The rows of the two tables and a hello's words, as a packet's content has them.
--- Assumes nothing: these are definitions.

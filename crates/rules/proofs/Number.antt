@@ -1,0 +1,111 @@
+-- A packet's number, from the facts that the code has of it.
+-- Assumes nothing.
+use Prim.Native.Nat.{ℕ, zero, suc, _+_, _-_, _^_, _<_}
+use native.Mathlib.Nat.{add-zero, add-suc}
+use mathlib.Core.Path.{_≡_, refl, sym, ap, _∙_}
+use mathlib.Core.Bool.{Bool, true, false, cond, not, _&&_, _||_}
+use mathlib.Core.List.{List}
+use mathlib.Core.Option.{Option, some}
+use lib.ListN.{length, drop, length-drop}
+use lib.Seq.{getD-drop}
+use lib.Dec.{eqb, leb}
+use borrow.Author.Tests.{lt-leb}
+use Rattle.number.specs.Little.{le}
+use Rattle.number.specs.Bits.{hasBit}
+use Rattle.header.specs.declared.Link.{Link}
+use Rattle.header.specs.Link.{sharedSet, idWidth}
+use Rattle.kinds.specs.Table.{Kind, kinds, kindAt}
+use Rattle.kinds.specs.Content.{Content, shared, size, find, fieldsOf}
+use Rattle.kinds.specs.Number.{sends, wideId, sizeOk, bad, isNone, streamsAlone, inOrder, kindNumber, byKind, wireNumber}
+use Rattle.kinds.specs.Codec.{layout}
+use Rattle.packet.specs.declared.Packet.{Packet}
+use Rattle.packet.specs.Packet.{Shown, shownOf, inPart, contentOf}
+use Rattle.rules.specs.declared.Facts.{Facts}
+use Rattle.rules.specs.Facts.{Shows, mayFollow}
+use Rattle.rules.proofs.Place.{none-bad}
+use Rattle.rules.proofs.Slots.{found, short, only-hello, only-words}
+
+-- the number by the facts, the packet's part of the body and the id
+abbrev pub numberBy : Link → ℕ → Facts → List ℕ → ℕ
+numberBy l id f rows =
+    inOrder (not (sends (kindAt (f .slot) .sender) (l .sender)))
+    (not (shared (sharedSet l) (kindAt (f .slot) .needs)) || f .surplus || (not (eqb (f .slot) 0) && not (hasBit (sharedSet l) 5) && leb 4294967296 id))
+    (not (leb (f .table) (length rows) && mayFollow (f .slot) (f .payload) (length rows - f .table)))
+    (not (eqb (f .bad) 65536))
+    (eqb (f .slot) 0 && (hasBit (le 4 rows (f .table)) 0 && not (hasBit (le 4 rows (f .table)) 4)))
+
+-- what is read behind a place is read as if that were the first
+le-drop : (n k : ℕ) (s : List ℕ) (i : ℕ) → le n (drop k s) i ≡ le n s (k + i)
+le-drop zero k s i = refl
+le-drop (suc n) k s i = rw (getD-drop k s i 0, le-drop n k s (suc i), add-suc k i)
+
+-- an id of at most 8 bytes is too wide where it has 4 only
+wide-id : (hello wide : Bool) (id : ℕ) → id < 256 ^ 8
+    → (not hello && leb (256 ^ cond (not hello && wide) 8 4) id) ≡ (not hello && not wide && leb 4294967296 id)
+wide-id true wide id h = refl
+wide-id false true id h = lt-leb (256 ^ 8) id h
+wide-id false false id h = refl
+
+pub number : (l : Link) (id : ℕ) (p : Packet) (body : List ℕ) (f : Facts) → id < 256 ^ 8 → Shows (l .sender) (sharedSet l) id p body f
+    → wireNumber l (contentOf (sharedSet l) id p body) ≡ numberBy l id f (inPart (f .rest) body)
+unfolding wireNumber kindNumber contentOf layout idWidth
+number l id p body f small s = ap (λ (o : Option Kind). byKind l o q) known ∙ go (leb (f .table) n) refl
+  where
+    caps : ℕ
+    caps = sharedSet l
+
+    shown : Shown
+    shown = shownOf (sharedSet l) p
+
+    q : Content
+    q = contentOf (sharedSet l) id p body
+
+    k : Kind
+    k = kindAt (f .slot)
+
+    rows : List ℕ
+    rows = inPart (f .rest) body
+
+    n : ℕ
+    n = length rows
+
+    known : find (shown .kind) kinds ≡ some k
+    known = ap (λ (m : ℕ). find m kinds) (sym (s .kind)) ∙ found (f .slot) (s .small)
+
+    fields : layout (shown .kind) ≡ k .fields
+    fields = ap fieldsOf known
+
+    rest : q .rest ≡ drop (f .table) rows
+    rest =
+        (λ i. drop (size (shown .columns) (drop (length (shown .front)) (fields i))) (inPart (shown .part) body))
+        ∙ (λ i. drop (sym (s .table) i) (inPart (sym (s .rest) i) body))
+
+    rest-length : length (q .rest) ≡ n - f .table
+    rest-length = ap length rest ∙ length-drop (f .table) rows
+
+    hello : eqb (shown .kind) 0 ≡ eqb (f .slot) 0
+    hello = ap (λ (m : ℕ). eqb m 0) (sym (s .kind)) ∙ only-hello (f .slot) (s .small)
+
+    wide : wideId l q ≡ (not (eqb (f .slot) 0) && not (hasBit caps 5) && leb 4294967296 id)
+    wide =
+        ap (λ (b : Bool). not b && leb (256 ^ cond (not b && hasBit caps 5) 8 4) id) hello
+        ∙ wide-id (eqb (f .slot) 0) (hasBit caps 5) id small
+
+    sized : sizeOk (l .sender) k q ≡ (leb (f .table) n && mayFollow (f .slot) (f .payload) (n - f .table))
+    sized = λ i. s .complete i && (s .tail (length (q .rest)) ∙ ap (mayFollow (f .slot) (f .payload)) rest-length) i
+
+    streams : streamsAlone (k .tail) (q .rest) ≡ (eqb (f .slot) 0 && (hasBit (le 4 rows (f .table)) 0 && not (hasBit (le 4 rows (f .table)) 4)))
+    streams =
+        only-words (f .slot) (q .rest) (s .small)
+        ∙ ap (λ (w : ℕ). eqb (f .slot) 0 && (hasBit w 0 && not (hasBit w 4)))
+        (ap (λ (r : List ℕ). le 4 r 0) rest ∙ le-drop 4 (f .table) rows 0 ∙ ap (le 4 rows) (add-zero (f .table)))
+
+    go : (t : Bool) → leb (f .table) n ≡ t → kindNumber l k q ≡ numberBy l id f rows
+    go true t =
+        let kept : isNone (bad (l .sender) caps k q) ≡ eqb (f .bad) 65536 =
+        none-bad (l .sender) caps k q (short (f .slot) (s .small)) ∙ ap (λ (m : ℕ). eqb m 65536) (s .bad t) in
+        λ i. inOrder (not (sends (k .sender) (l .sender))) (not (shared caps (k .needs)) || s .surplus i || wide i) (not (sized i)) (not (kept i)) (streams i)
+    go false t =
+        (λ i. inOrder (not (sends (k .sender) (l .sender))) (not (shared caps (k .needs)) || s .surplus i || wide i) (not (sized i))
+        (not (isNone (bad (l .sender) caps k q))) (streamsAlone (k .tail) (q .rest)))
+        ∙ rw t
