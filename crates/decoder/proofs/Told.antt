@@ -7,8 +7,8 @@ use mathlib.Core.Option.{Option, none, some}
 use Prim.Native.Nat.{ℕ, _+_, _-_, _≤_, _<_}
 use native.Mathlib.Omega.{arith}
 use lib.ListN.{length, take, drop}
-use lib.Dec.{eqb}
-use borrow.Author.Tests.{eq-eqb, ne-eqb}
+use lib.Dec.{eqb, ltb}
+use borrow.Author.Tests.{eq-eqb, ne-eqb, lt-ltb, le-ltb}
 use borrow.Rule.Slice.PartAt.{part-to-end}
 use Rattle.header.specs.declared.Header.{Header}
 use Rattle.header.specs.declared.Link.{Link}
@@ -88,13 +88,23 @@ module _ (l : Link) (b : List ℕ) {g : Header} (same : g ≡ headerOf l b) wher
   pub small : g .size ≤ 16
   small = rw same (narrow l (kindOf b))
 
+  -- no whole header
+  pub short-refused : length b < g .size → told l b (Refused 23) ≡ readOf l b
+  unfolding readOf readNumber
+  short-refused h = not-handed 23 (readNumber l b) _ (rw (lt-ltb (length b) (headerSize l (kindOf b)) (rw same at h))) (λ y. omega arith)
+
+-- and the bytes hold it
+module _ (l : Link) (b : List ℕ) {g : Header} (same : g ≡ headerOf l b) (long : g .size ≤ length b) where
+  held : ltb (length b) (headerSize l (kindOf b)) ≡ false
+  held = le-ltb (length b) (headerSize l (kindOf b)) (rw same at long)
+
   -- 10, 11 or 12
   pub header-refused : (n : ℕ) → n ≡ headerNumber l (g .kind) (g .length) → (n ≡ 0 → ⊥) → told l b (Refused n) ≡ readOf l b
   unfolding readOf readNumber
   header-refused n e z =
       let w : ℕ = headerNumber l (kindOf b) (lengthOf b) in
       let k : n ≡ w = rw same at e in
-      not-handed n (readNumber l b) _ (rw (ne-eqb w 0 (λ y. z (k ∙ y))) k) z
+      not-handed n (readNumber l b) _ (rw (held, ne-eqb w 0 (λ y. z (k ∙ y))) k) z
 
   module _ {n : ℕ} (e : n ≡ headerNumber l (g .kind) (g .length)) (z : n ≡ 0) where
     no-number : headerNumber l (kindOf b) (lengthOf b) ≡ 0
@@ -104,12 +114,12 @@ module _ (l : Link) (b : List ℕ) {g : Header} (same : g ≡ headerOf l b) wher
     pub length-refused : (length b ≡ g .size + g .length → ⊥) → told l b (Refused 23) ≡ readOf l b
     unfolding readOf readNumber
     length-refused d =
-        not-handed 23 (readNumber l b) _ (rw (no-number, ne-eqb (length b) (headerSize l (kindOf b) + lengthOf b) (rw same at d))) (λ y. omega arith)
+        not-handed 23 (readNumber l b) _ (rw (held, no-number, ne-eqb (length b) (headerSize l (kindOf b) + lengthOf b) (rw same at d))) (λ y. omega arith)
 
     module _ (s : length b ≡ g .size + g .length) where
       wire : readNumber l b ≡ wireNumber l (decode l b)
       unfolding readNumber
-      wire = rw (no-number, eq-eqb (length b) (headerSize l (kindOf b) + lengthOf b) (rw same at s))
+      wire = rw (held, no-number, eq-eqb (length b) (headerSize l (kindOf b) + lengthOf b) (rw same at s))
 
       -- 20
       pub kind-unknown : find (g .kind) kinds ≡ none → told l b (Refused 20) ≡ readOf l b

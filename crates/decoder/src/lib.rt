@@ -253,8 +253,8 @@ fn read_kind(l: Link, h: Header, slot: usize, body: &[u8]) -> Reading
     }
 }
 
-// The bytes of one whole packet, as the sender's hellos let it be: 10 to 12 by the header, 23 where the bytes are not as many
-// as it says, else the wire checks.
+// The bytes of one whole packet, under what both hellos offered: 10 to 12 by the header, 23 where the bytes are not as many as it
+// says, else the wire checks.
 pub fn read(l: Link, bytes: &[u8]) -> Reading
     ensures { λ r. ⌜ told l (now (bytes .entry)) r ≡ readOf l (now (bytes .entry)) ⌝ }
 {
@@ -262,6 +262,9 @@ pub fn read(l: Link, bytes: &[u8]) -> Reading
     let kind = h.kind;
     let length = h.length as usize;
     let size = h.size;
+    if bytes.len() < size {
+        return Reading::Refused(23);
+    }
     let number = header_number(l, kind, length);
     if number != 0 {
         return Reading::Refused(number);

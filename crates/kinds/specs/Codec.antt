@@ -38,11 +38,13 @@ decode l b = contentAt (sharedSet l) (kindOf b) (idOf l b) (drop (headerSize l (
 abbrev pub orNext : ℕ → ℕ → ℕ
 orNext n m = cond (eqb n 0) m n
 
--- the number of bytes that should be one packet: 10 to 12 by the header; 23 where they are not as many as it says; else the wire checks
+-- the number of bytes that should be one packet: 10 to 12 as soon as the header is whole; 23 where the bytes are not as many as the
+-- header says, or no header; else the wire checks
 unfoldable pub readNumber : Link → List ℕ → ℕ
 readNumber l b =
-    orNext (headerNumber l (kindOf b) (lengthOf b))
-    (cond (eqb (length b) (headerSize l (kindOf b) + lengthOf b)) (wireNumber l (decode l b)) 23)
+    cond (ltb (length b) (headerSize l (kindOf b))) 23
+    (orNext (headerNumber l (kindOf b) (lengthOf b))
+    (cond (eqb (length b) (headerSize l (kindOf b) + lengthOf b)) (wireNumber l (decode l b)) 23))
 
 -- ---- writing
 

@@ -14,7 +14,9 @@ use Rattle.header.specs.declared.Hello.the-variants.{Awaited, Passed}
 use Rattle.header.specs.Link.{sharedSet, idWidth}
 use Rattle.kinds.specs.Table.{Field, Tail, nothing, words, string, payload, payload-onward, Kind, kinds, kindAt}
 use Rattle.kinds.specs.Content.{Value, one, Content, shared, size}
+use Rattle.header.specs.Header.{headerSize, headerBytes, headerNumber}
 use Rattle.kinds.specs.Number.{bad, kindNumber, wireNumber}
+use Rattle.kinds.specs.Codec.{layout, encode, packetNumber, writeNumber}
 
 -- ---- sizes
 
@@ -128,7 +130,9 @@ pub refused : (number Guest 0 (packet 28 0 [] []) ≡ 20)
     × (number Guest 0 (packet 7 7 [] (1 ∷ [])) ≡ 23)
     × (number Guest 0 (bulk 0 none (170 ∷ [])) ≡ 23)
     × (number Host 0 (bulk 0 none (170 ∷ 187 ∷ [])) ≡ 23)
+    × (number Guest 64 (packet 101 9 (one 2 ∷ one 0 ∷ one 65535 ∷ one 0 ∷ one 65535 ∷ []) []) ≡ 23)  -- a count of 4,294,967,295
     × (number Guest 4 (packet 23 0 [] []) ≡ 23)
+    × (number Host 2 (connect 4 (one 0)) ≡ 24)
     × (number Host 0 (packet 8 1 (one 7 ∷ one 1 ∷ []) []) ≡ 24)
     × (number Guest 0 (packet 12 5 (one 18 ∷ one 1 ∷ one 1 ∷ []) []) ≡ 24)  -- M9
     × (number Guest 1 (packet 18 1 (one 0 ∷ one 0 ∷ []) []) ≡ 24)
@@ -137,7 +141,7 @@ pub refused : (number Guest 0 (packet 28 0 [] []) ≡ 20)
     × (first (hello 1 []) ≡ 24)
     × (first (hello 0 (1 ∷ 0 ∷ 0 ∷ 0 ∷ [])) ≡ 13)  -- M10
 unfolding sharedSet idWidth wireNumber kindNumber bad kinds
-refused = (refl, refl, refl, refl, refl, refl, refl, refl, refl, refl, refl, refl, refl, refl, refl, refl, refl, refl)
+refused = (refl, refl, refl, refl, refl, refl, refl, refl, refl, refl, refl, refl, refl, refl, refl, refl, refl, refl, refl, refl)
 
 -- ---- places: of the first bad field, and of an id only where no field is bad
 
@@ -151,3 +155,23 @@ pub places : (bad Host 17 (kindAt 5) (table 4 rows rows) ≡ some 17)
     × (bad Host 17 (kindAt 5) (table 0 rows none) ≡ some 160)
 unfolding bad kinds
 places = (refl, refl, refl, refl, refl, refl, refl, refl)
+
+-- ---- the writer: the presence rules, 10 first and 40 last
+
+-- the number of a packet to be written into so many bytes, where both hellos have passed and offered these
+abbrev writing : Side → ℕ → ℕ → Content → ℕ
+writing from caps room p = writeNumber (record { sender = from; guest = Passed caps; host = Passed caps }) p room
+
+pub writer : (writing Guest 0 12 (packet 7 7 [] []) ≡ 0)
+    × (writing Guest 0 11 (packet 7 7 [] []) ≡ 40)
+    × (writing Guest 32 15 (packet 7 7 [] []) ≡ 40)  -- 64-bit ids
+    × (writing Host 0 0 (connect 0 (one 0)) ≡ 22)  -- and no room: 22 before 40
+    × (writing Host 2 0 (connect 0 none) ≡ 24)  -- missing though shared: 24 and not 23
+    × (writing Guest 0 0 (bulk 0 (one 1) (170 ∷ 187 ∷ [])) ≡ 22)  -- a count of 65,538
+    × (writing Guest 0 0 (packet 7 4294967296 [] []) ≡ 22)
+    × (writing Guest 0 0 (packet 22 4294967296 [] []) ≡ 22)
+    × (writing Guest 0 0 (hello 0 []) ≡ 12)
+    × (writing Guest 0 0 (bulk 0 none (replicate 32760 0)) ≡ 23)
+    × (writing Guest 0 0 (bulk 0 none (replicate 32761 0)) ≡ 10)
+unfolding sharedSet idWidth headerSize headerBytes headerNumber layout encode packetNumber writeNumber wireNumber kindNumber bad kinds
+writer = (refl, refl, refl, refl, refl, refl, refl, refl, refl, refl, refl)

@@ -8,12 +8,12 @@ use Prim.Native.Nat.{ℕ, zero, suc, _+_, _-_, _*_, _^_, _≤_, _<_}
 use native.Mathlib.Nat.{add-assoc, add-zero, zero-add, mul-zero, mul-suc, add-comm}
 use native.Mathlib.Omega.{arith}
 use lib.ListN.{length, getD, take, drop, length-append, length-drop, take-append-drop}
-use lib.Seq.{drop-at, drop-drop, length-take-le}
+use lib.Seq.{drop-at, drop-drop, getD-drop, length-take-le}
 use lib.Dec.{eqb, leb, leb·zero, eqb·zero-suc}
 use borrow.Author.Tests.{eqb-true, le-leb, lt-leb, leb-true, leb-false, eq-eqb}
 use Rattle.header.specs.declared.Side.{Side}
 use Rattle.number.specs.Little.{le, bytesOf}
-use Rattle.number.specs.Laws.{le-bytes, le-shift, length-bytes}
+use Rattle.number.specs.Laws.{le-bytes, le-shift, le-lt, length-bytes}
 use Rattle.kinds.specs.Table.{Bits, Field}
 use Rattle.kinds.specs.Content.{Value, shared, sizeOf, size, numbers, whole, split, bytesOfAll, bytesOfValue, bytes}
 use Rattle.kinds.specs.Number.{surplus, complete, badField, badFields, isNone, orElse}
@@ -232,3 +232,30 @@ split-from has (f ∷ fs) s k l h =
 
 pub split-full : (has : Bits → Bool) (fs : List Field) (s : List ℕ) → size has fs ≤ length s → split has fs s ≡ valuesAt has fs s 0
 split-full has fs s h = split-from has fs s 0 (omega arith) h
+
+-- ---- what is read from bytes fits
+
+below-numbers : (s : List ℕ) → ((k : ℕ) → getD s k 0 < 256) → (w n at : ℕ) → Below w (numbers w n s at)
+below-numbers s b w zero at = tt
+below-numbers s b w (suc n) at = (le-lt s b w at, below-numbers s b w n (at + w))
+
+below-whole : (f : Field) (s : List ℕ) → ((k : ℕ) → getD s k 0 < 256) → Below (f .width) (whole f s)
+below-whole f s b = go (leb (f .width * f .times) (length s))
+  where
+    go : (t : Bool) → Below (f .width) (cond t (numbers (f .width) (f .times) s 0) [])
+    go true = below-numbers s b (f .width) (f .times) 0
+    go false = tt
+
+pub fitting-split : (has : Bits → Bool) (fs : List Field) (s : List ℕ) → ((k : ℕ) → getD s k 0 < 256) → Fitting fs (split has fs s)
+fitting-split has [] s b = tt
+fitting-split has (f ∷ fs) s b = go (has (f .there)) (fitting-split has fs (drop (sizeOf has f) s) (λ k. rw (getD-drop (sizeOf has f) s k 0) (b (sizeOf has f + k))))
+  where
+    go : (t : Bool) → Fitting fs (split has fs (drop (sizeOf has f) s)) → Fitting (f ∷ fs) (cond t (some (whole f s)) none ∷ split has fs (drop (sizeOf has f) s))
+    go true ih = (below-whole f s b, ih)
+    go false ih = ih
+
+pub fitting-append : (fs : List Field) (vs ws : List Value) → Fitting (take (length vs) fs) vs → Fitting (drop (length vs) fs) ws → Fitting fs (vs ++ ws)
+fitting-append fs [] ws h k = k
+fitting-append [] (v ∷ vs) ws h k = absurd h
+fitting-append (f ∷ fs) (none ∷ vs) ws h k = fitting-append fs vs ws h k
+fitting-append (f ∷ fs) (some xs ∷ vs) ws h k = (h .0, fitting-append fs vs ws (h .1) k)

@@ -45,7 +45,7 @@ wideId l p = not (eqb (p .kind) 0) && leb (256 ^ idWidth l (p .kind)) (p .id)
 -- every field that is there has all its numbers
 abbrev pub complete : List Field → List Value → Bool
 complete [] vs = true
-complete (f ∷ fs) [] = true
+complete (f ∷ fs) [] = false
 complete (f ∷ fs) (none ∷ vs) = complete fs vs
 complete (f ∷ fs) (some xs ∷ vs) = eqb (length xs) (f .times) && complete fs vs
 
@@ -150,7 +150,6 @@ streamsAlone payload-onward s = false
 
 -- ---- the number: the first that holds of 20 to 24, then 13 (so "23, 24 or 13 (that order)" for a hello)
 
--- the first number whose test fails or holds: of 21 to 24 and 13
 abbrev pub inOrder : Bool → Bool → Bool → Bool → Bool → ℕ
 inOrder wrongSender notShared wrongSize badField streams =
     cond wrongSender 21 (cond notShared 22 (cond wrongSize 23 (cond badField 24 (cond streams 13 0))))

@@ -10,7 +10,7 @@ use native.Mathlib.Omega.{arith}
 use lib.ListN.{length, drop, length-append}
 use lib.Seq.{drop-at}
 use lib.Dec.{eqb, leb, ltb}
-use borrow.Author.Tests.{eqb-true, eqb-false, leb-false, ltb-true, not-false, eq-eqb}
+use borrow.Author.Tests.{eqb-true, eqb-false, leb-false, ltb-true, le-ltb, not-false, eq-eqb}
 use Rattle.header.specs.declared.Link.{Link}
 use Rattle.header.specs.Link.{sharedSet, idWidth}
 use Rattle.header.specs.Header.{kindOf, lengthOf, idOf, headerSize, headerBytes, headerNumber}
@@ -192,6 +192,6 @@ round-trip l p a =
     record {
       size = e;
       header = h;
-      number = simp (h, eq-eqb (length b) (headerSize l (kindOf b) + lengthOf b) e, back) (s .wire);
+      number = simp (le-ltb (length b) (headerSize l (kindOf b)) (omega arith), h, eq-eqb (length b) (headerSize l (kindOf b) + lengthOf b) e, back) (s .wire);
       back = back;
     }

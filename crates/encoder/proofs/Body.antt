@@ -1,0 +1,149 @@
+-- What the code knows of a packet's content: how long its body is, and, where the wire checks find nothing, which bytes it has.
+-- Assumes nothing.
+use mathlib.Core.Path.{_≡_, sym, ap, _∙_}
+use mathlib.Core.Bool.{Bool, true, false, cond, not, _||_}
+use mathlib.Core.List.{List, [], _∷_, _++_, append-assoc}
+use mathlib.Core.Option.{some}
+use Prim.Native.Nat.{ℕ, _+_, _-_, _*_, _≤_, _<_, min}
+use native.Mathlib.Omega.{arith}
+use lib.ListN.{length, take, drop, length-append, length-drop}
+use lib.Dec.{lit≤}
+use borrow.Author.Tests.{leb-true, not-false}
+use Rattle.number.specs.Little.{bytesOf}
+use Rattle.number.specs.Laws.{length-bytes}
+use Rattle.header.specs.declared.Link.{Link}
+use Rattle.header.specs.Link.{sharedSet, idWidth}
+use Rattle.header.specs.Header.{headerBytes, headerNumber}
+use Rattle.header.specs.Laws.{short}
+use Rattle.kinds.specs.Table.{Bits, Field, Kind, kinds, kindAt}
+use Rattle.kinds.specs.Content.{Content, shared, size, split, bytes, find, fieldsOf}
+use Rattle.kinds.specs.Number.{sends, surplus, wideId, complete, tailOk, sizeOk, bad, isNone, streamsAlone, kindNumber, wireNumber}
+use Rattle.kinds.specs.Codec.{layout, bodyOf, bodyLength, encode}
+use Rattle.kinds.specs.Laws.{and-left}
+use Rattle.kinds.specs.RoundTrip.{none-holds}
+use Rattle.packet.specs.declared.Packet.{Packet}
+use Rattle.packet.specs.Packet.{Shown, shownOf, inPart, contentOf}
+use Rattle.rules.specs.declared.Facts.{Facts}
+use Rattle.rules.specs.Facts.{Shows}
+use Rattle.rules.proofs.Slots as slots
+use Rattle.encoder.specs.declared.Head.{Head}
+use Rattle.encoder.specs.Head.{IsHead, laidOut}
+use Rattle.encoder.specs.Again.{Octets, octets-take, octets-drop, again, bytes-append}
+use Rattle.encoder.proofs.Outcome.{capped}
+
+-- ---- sizes
+
+-- a layout has no more bytes than all its fields have
+some-size : (has : Bits → Bool) (fs : List Field) → size has fs ≤ size (λ b. true) fs
+some-size has [] = lit≤ tt
+some-size has (f ∷ fs) = omega (arith, some-size has fs, at-most (has (f .there)) (f .width * f .times))
+  where
+    at-most : (b : Bool) (n : ℕ) → cond b n 0 ≤ n
+    at-most true n = omega arith
+    at-most false n = omega arith
+
+pub few : (has : Bits → Bool) (slot : ℕ) → slot < 33 → size has (kindAt slot .fields) ≤ 65535
+few has slot h = omega (arith, some-size has (kindAt slot .fields), slots.short slot h)
+
+-- where the wire checks find nothing, each field has all its numbers
+sized : (l : Link) (q : Content) (k : Kind) → find (q .kind) kinds ≡ some k → wireNumber l q ≡ 0 → complete (k .fields) (q .fields) ≡ true
+unfolding wireNumber kindNumber
+sized l q k f z =
+    let n : kindNumber l k q ≡ 0 = rw f at z in
+    let h = none-holds (not (sends (k .sender) (l .sender)))
+    (not (shared (sharedSet l) (k .needs)) || surplus (sharedSet l) (k .fields) (q .fields) || wideId l q)
+    (not (sizeOk (l .sender) k q))
+    (not (isNone (bad (l .sender) (sharedSet l) k q)))
+    (streamsAlone (k .tail) (q .rest)) n in
+    and-left (complete (k .fields) (q .fields)) (tailOk (k .tail) (l .sender) (k .fields) (q .fields) (length (q .rest)))
+    (not-false (sizeOk (l .sender) k q) (h .2))
+
+-- ---- one packet, by its facts
+
+abbrev shown : Link → Packet → Shown
+shown l p = shownOf (sharedSet l) p
+
+abbrev content : Link → ℕ → Packet → List ℕ → Content
+content l id p body = contentOf (sharedSet l) id p body
+
+module _ (l : Link) (id : ℕ) (p : Packet) (body : List ℕ) (f : Facts) (s : Shows (l .sender) (sharedSet l) id p body f) where
+  known : find (shown l p .kind) kinds ≡ some (kindAt (f .slot))
+  known = ap (λ (m : ℕ). find m kinds) (sym (s .kind)) ∙ slots.found (f .slot) (s .small)
+
+  fields : layout (shown l p .kind) ≡ kindAt (f .slot) .fields
+  unfolding layout
+  fields = ap fieldsOf known
+
+  -- the table's bytes, and the part of the body that holds them
+  table : size (shown l p .columns) (drop (length (shown l p .front)) (layout (shown l p .kind))) ≡ f .table
+  table = ap (λ (fs : List Field). size (shown l p .columns) (drop (length (shown l p .front)) fs)) fields ∙ sym (s .table)
+
+  rows : inPart (shown l p .part) body ≡ inPart (f .rest) body
+  rows = ap (λ part. inPart part body) (sym (s .rest))
+
+  -- the body's length
+  counted : bodyLength l (content l id p body) ≡ size (shared (sharedSet l)) (kindAt (f .slot) .fields) + (length (inPart (f .rest) body) - f .table)
+  unfolding contentOf
+  counted =
+      (λ i. size (shared (sharedSet l)) (fields i) + length (drop (table i) (rows i)))
+      ∙ ap (λ (m : ℕ). size (shared (sharedSet l)) (kindAt (f .slot) .fields) + m) (length-drop (f .table) (inPart (f .rest) body))
+
+  -- the number by the header, from the length as the code has it
+  pub header : headerNumber l (kindAt (f .slot) .number) (size (shared (sharedSet l)) (kindAt (f .slot) .fields) + min (length (inPart (f .rest) body) - f .table) 65536)
+      ≡ headerNumber l (content l id p body .kind) (bodyLength l (content l id p body))
+  unfolding contentOf
+  header =
+      capped l (kindAt (f .slot) .number) (size (shared (sharedSet l)) (kindAt (f .slot) .fields)) (length (inPart (f .rest) body) - f .table)
+      ∙ (λ i. headerNumber l (s .kind i) (sym counted i))
+
+  -- what a header that nothing refuses leaves to the part of the body
+  pub short-rows : headerNumber l (content l id p body .kind) (bodyLength l (content l id p body)) ≡ 0 → length (inPart (f .rest) body) ≤ 33056
+  short-rows z = omega (arith, short l (content l id p body .kind) (bodyLength l (content l id p body)) z, counted, s .few)
+
+  module _ (w : wireNumber l (content l id p body) ≡ 0) (b : Octets body) where
+    -- the whole table is there
+    full : f .table ≤ length (inPart (f .rest) body)
+    unfolding contentOf
+    full =
+        leb-true (f .table) (length (inPart (f .rest) body))
+        (sym (s .complete) ∙ sized l (content l id p body) (kindAt (f .slot)) known w)
+
+    octets : Octets (inPart (f .rest) body)
+    octets = octets-drop (f .rest .start) (take (f .rest .end) body) (octets-take (f .rest .end) body b)
+
+    -- the body: the head's bytes and then the part
+    whole : bodyOf (content l id p body) ≡ bytes (layout (shown l p .kind)) (shown l p .front) ++ inPart (f .rest) body
+    unfolding contentOf
+    whole =
+        let v = shown l p in
+        let fs : List Field = layout (v .kind) in
+        let gs : List Field = drop (length (v .front)) fs in
+        let r : List ℕ = inPart (f .rest) body in
+        let m : size (v .columns) gs ≤ length r = rw table full in
+        (λ i. bytes fs (v .front ++ split (v .columns) gs (rows i)) ++ drop (size (v .columns) gs) (rows i))
+        ∙ rw (
+          bytes-append fs (v .front) (split (v .columns) gs r),
+          append-assoc (bytes fs (v .front)) (bytes gs (split (v .columns) gs r)) (drop (size (v .columns) gs) r),
+          again (v .columns) gs r octets m,
+        )
+
+    -- the packet, from the head and the part
+    pub encoded : (h : Head) → IsHead (sharedSet l) p h
+        → encode l (content l id p body)
+        ≡ laidOut (idWidth l (kindAt (f .slot) .number)) (kindAt (f .slot) .number) id (take (h .n) (h .bytes) ++ inPart (f .rest) body)
+    unfolding contentOf encode headerBytes
+    encoded h e =
+        (λ i. laidOut (idWidth l (sym (s .kind) i)) (sym (s .kind) i) id (whole i))
+        ∙ ap (λ (x : List ℕ). laidOut (idWidth l (kindAt (f .slot) .number)) (kindAt (f .slot) .number) id (x ++ inPart (f .rest) body)) (sym (e .are))
+
+    -- its size
+    pub sum : length (encode l (content l id p body)) ≡ 8 + idWidth l (kindAt (f .slot) .number) + f .head + length (inPart (f .rest) body)
+    unfolding contentOf encode headerBytes
+    sum =
+        let v = shown l p in
+        let hs : List ℕ = bytes (layout (v .kind)) (v .front) in
+        let r : List ℕ = inPart (f .rest) body in
+        let d : ℕ = idWidth l (kindAt (f .slot) .number) in
+        let n : length hs ≡ f .head = ap (λ (fs : List Field). length (bytes fs (v .front))) fields ∙ sym (s .head) in
+        ap length (λ i. laidOut (idWidth l (sym (s .kind) i)) (sym (s .kind) i) id (whole i))
+        ∙ omega (arith, length-append (bytesOf d id) (hs ++ r), length-bytes d id, length-append hs r, n)

@@ -1,0 +1,6 @@
+pub mod Laid
+pub mod Slots
+pub mod Outcome
+pub mod Body
+pub mod Last
+pub mod Accept

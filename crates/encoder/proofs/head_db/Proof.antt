@@ -1,0 +1,30 @@
+-- `encoder::head_db` meets its contract: each byte is the digit that its call gives.
+-- Assumes nothing.
+use mathlib.Core.Path.{refl}
+use lib.Dec.{lit≤}
+use borrow.Author.Needs.{needs}
+use Rattle.encoder.proofs.head_db.Statement.{statement}
+use Rattle.encoder.proofs.head_db.Tie as tie
+
+low-requires : tie.Need-low-requires
+low-requires c κs = search needs
+
+low-requires-2 : tie.Need-low-requires-2
+low-requires-2 c κs = search needs
+
+low-requires-3 : tie.Need-low-requires-3
+low-requires-3 c κs = search needs
+
+low-requires-4 : tie.Need-low-requires-4
+low-requires-4 c κs = search needs
+
+octet-requires : tie.Need-octet-requires
+octet-requires c κs = search needs
+
+returns : tie.Need-returns
+returns c = record { are = rw (c .octet .ensures, c .before .low4 .ensures, c .before .before .low3 .ensures, c .before .before .before .low2 .ensures, c .before .before .before .before .low .ensures); short = lit≤ tt; ten = refl }
+
+pub head-db-spec : {M : Type 1} → statement M
+head-db-spec =
+    tie.close
+    (tie.spec low-requires low-requires-2 low-requires-3 low-requires-4 octet-requires returns)

@@ -1,0 +1,24 @@
+-- `encoder::kind_of` meets its contract: kinds 0 to 27 stand at their number, and 100 to 104 behind them.
+-- Assumes nothing.
+use Rattle.encoder.proofs.Slots.{low-slot, high-slot}
+use borrow.Author.Needs.{needs}
+use Rattle.encoder.proofs.kind_of.Statement.{statement}
+use Rattle.encoder.proofs.kind_of.Tie as tie
+
+cast-result : tie.Need-cast-result
+cast-result c = search needs
+
+cast-result-2 : tie.Need-cast-result-2
+cast-result-2 c = search needs
+
+add-result : tie.Need-add-result
+add-result c = search needs
+
+returns : tie.Need-returns
+returns c = low-slot (c .before .args .slot) (c .if1 .taken)
+
+returns-2 : tie.Need-returns-2
+returns-2 c = high-slot (c .before .args .slot) (c .if1 .left) (c .before .pre)
+
+pub kind-of-spec : {M : Type 1} → statement M
+kind-of-spec = tie.close (tie.spec cast-result cast-result-2 add-result returns returns-2)

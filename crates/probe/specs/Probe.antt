@@ -1,0 +1,80 @@
+-- What the functions for host programs answer: the library's definitions, by plain numbers.
+-- Assumes nothing: these are definitions.
+use Prim.Native.Nat.{ℕ, _/_}
+use mathlib.Core.Path.{_≡_}
+use mathlib.Core.Bool.{Bool, true, false, cond, not, _||_}
+use mathlib.Core.List.{List, [], _∷_, map}
+use lib.ListN.{length, getD, take, drop}
+use lib.Dec.{eqb, ltb}
+use Rattle.number.specs.Bits.{hasBit}
+use Rattle.endpoint.specs.Endpoint.{rowOf}
+use Rattle.endpoint.specs.declared.RowOf.{RowOf}
+use Rattle.endpoint.specs.declared.RowOf.the-variants.{At, Malformed}
+use Rattle.header.specs.declared.Side.the-variants.{Guest, Host}
+use Rattle.header.specs.declared.Hello.{Hello}
+use Rattle.header.specs.declared.Hello.the-variants.{Awaited, Passed}
+use Rattle.header.specs.declared.Link.{Link}
+use Rattle.header.specs.Link.{sharedSet}
+use Rattle.header.specs.Header.{kindOf, headerSize}
+use Rattle.kinds.specs.Table.{kinds}
+use Rattle.kinds.specs.Content.{Value, Content, firstNumber, find}
+use Rattle.kinds.specs.Codec.{layout, decode, readNumber, writtenSize, written}
+use Rattle.packet.specs.declared.Part.{Part}
+use Rattle.packet.specs.declared.Optional16.{Optional16}
+use Rattle.packet.specs.declared.Optional16.the-variants.{Absent, Present}
+use Rattle.rows.specs.declared.Optional32.{Optional32}
+use Rattle.rows.specs.declared.Optional32.the-variants.{Absent as Absent32, Present as Present32}
+use Rattle.rows.specs.Rows.{interfaceRow, endpointRow}
+use Rattle.decoder.specs.Reading.{frontFields, partAt, kindOr}
+
+abbrev pub helloOf : ℕ → Hello
+helloOf word = cond (ltb word 4294967296) (Passed word) Awaited
+
+abbrev pub linkOf : ℕ → ℕ → ℕ → Link
+linkOf sender guest host = record { sender = cond (eqb sender 0) Guest Host; guest = helloOf guest; host = helloOf host }
+
+abbrev pub value16 : Optional16 → ℕ
+value16 Absent = 0
+value16 (Present x) = x
+
+abbrev pub value32Of : Optional32 → ℕ
+value32Of Absent32 = 0
+value32Of (Present32 x) = x
+
+abbrev pub highNumber : ℕ → ℕ → ℕ
+highNumber caps n = cond (hasBit caps 6 || ltb 65535 n) (n / 65536) 0
+
+-- the fields that are one number each
+abbrev pub frontOf : Content → List Value
+frontOf q = take (length (frontFields (layout (q .kind)))) (q .fields)
+
+-- field i of a packet that passes
+abbrev pub fieldIn : Link → List ℕ → ℕ → ℕ
+fieldIn l bytes i = cond (eqb (readNumber l bytes) 0) (getD (map firstNumber (frontOf (decode l bytes))) i 0) 0
+
+-- an end of the part of a packet that passes
+abbrev pub partIn : Link → List ℕ → ℕ → ℕ
+partIn l bytes end =
+    let p : Part = partAt (sharedSet l) (kindOr (find (kindOf bytes) kinds)) (length (drop (headerSize l (kindOf bytes)) bytes)) in
+    cond (eqb (readNumber l bytes) 0) (cond (eqb end 0) (p .start) (p .end)) 0
+
+abbrev pub rowNumber : RowOf → ℕ
+rowNumber (At r) = r .0
+rowNumber Malformed = 255
+
+abbrev pub rowIn : ℕ → ℕ
+rowIn b = rowNumber (rowOf (record { 0 = b }))
+
+-- a packet that passes is written again; one that does not changes nothing
+pub record Rewrites (l : Link) (bytes out : List ℕ) (n : ℕ) (after : List ℕ) : Type 0 where
+  pub size : n ≡ cond (eqb (readNumber l bytes) 0) (writtenSize l (decode l bytes) (length out)) 0
+  pub output : after ≡ cond (eqb (readNumber l bytes) 0) (written l (decode l bytes) out) out
+
+abbrev pub interfaceCell : List ℕ → ℕ → ℕ → ℕ
+interfaceCell rows row column =
+    getD (interfaceRow rows row .number ∷ interfaceRow rows row .class ∷ interfaceRow rows row .subclass ∷ interfaceRow rows row .protocol ∷ 0 ∷ 0 ∷ 0 ∷ []) column 0
+
+abbrev pub endpointCell : List ℕ → ℕ → ℕ → ℕ → ℕ → ℕ
+endpointCell rows packets streams row column =
+    let r = endpointRow rows (not (eqb packets 0)) (not (eqb streams 0)) row in
+    getD (r .kind ∷ r .interval ∷ r .interface ∷ value16 (r .maxpacket) ∷ value32Of (r .maxstreams) ∷ 0 ∷ 0 ∷ []) column 0

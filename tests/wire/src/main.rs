@@ -1,0 +1,54 @@
+//! Tests of the wire library: captured packets, marked examples, generated and damaged packets.
+//!
+//! `wire [DIRECTORY]`: the directory holds captures with their sidecars; the fixtures beside the manifest if none is given.
+//! The environment variable SEED repeats a run of the generated packets.
+
+mod capture;
+mod compare;
+mod differential;
+mod examples;
+mod generate;
+mod hex;
+mod json;
+mod library;
+mod oracle;
+mod random;
+mod report;
+
+use std::env;
+use std::path::PathBuf;
+use std::process::ExitCode;
+use std::time::{SystemTime, UNIX_EPOCH};
+
+use report::Report;
+
+fn main() -> ExitCode {
+    let seed = seed();
+    println!("seed {seed}");
+    let mut report = Report::default();
+    let captured = capture::run(&directory(), &mut report);
+    examples::run(&mut report);
+    differential::run(seed, &captured, &mut report);
+    if report.close() {
+        ExitCode::SUCCESS
+    } else {
+        ExitCode::FAILURE
+    }
+}
+
+fn directory() -> PathBuf {
+    match env::args_os().nth(1) {
+        Some(directory) => PathBuf::from(directory),
+        None => PathBuf::from(env!("CARGO_MANIFEST_DIR")).join("captures"),
+    }
+}
+
+fn seed() -> u64 {
+    match env::var("SEED") {
+        Ok(text) => text.parse().expect("SEED is a number"),
+        Err(_) => match SystemTime::now().duration_since(UNIX_EPOCH) {
+            Ok(time) => time.as_nanos() as u64,
+            Err(_) => 1,
+        },
+    }
+}
