@@ -25,7 +25,7 @@ use Rattle.decoder.specs.declared.Reading.{Reading}
 use Rattle.decoder.specs.declared.Reading.the-variants.{Refused, Passed}
 use Rattle.decoder.specs.Reading.{Handed, Told, told, partAt, kindOr, readOf}
 use Rattle.decoder.specs.Body.{ReadsBody, ReadsKind, toldBody, readBodyOf}
-use Rattle.rules.proofs.Slots.{found}
+use Rattle.kinds.specs.Slots.{found}
 
 abbrev telling : ℕ → Option Handed → Told
 telling n o = record { number = n; handed = o }

@@ -17,10 +17,10 @@ use Rattle.kinds.specs.Table.{Field, Tail, nothing, words, string, payload, pay
 use Rattle.kinds.specs.Content.{Value, Content, shared, sizeOf, size, whole, split, fieldsOf}
 use Rattle.kinds.specs.Number.{sends, surplus, wideId, complete, tailOk, sizeOk, bad, isNone, streamsAlone, inOrder, kindNumber, byKind, wireNumber}
 use Rattle.kinds.specs.Codec.{layout, contentAt}
-use Rattle.kinds.specs.Laws.{complete-split, or-left, or-right, and-left, and-right}
+use Rattle.kinds.specs.Laws.{wide-id, complete-split, or-left, or-right, and-left, and-right}
 use Rattle.decoder.specs.Reading.{isNothing, carries}
 use Rattle.decoder.specs.Body.{Fits, misfitNumber}
-use Rattle.rules.proofs.Slots.{found, only-hello}
+use Rattle.kinds.specs.Slots.{found, only-hello}
 
 -- what is read off the wire has no field that is not shared
 none-surplus : (caps : ℕ) (fs : List Field) (s : List ℕ) → surplus caps fs (split (shared caps) fs s) ≡ false
@@ -33,13 +33,6 @@ none-surplus caps (f ∷ fs) s = go (shared caps (f .there)) refl (none-surplus 
     go : (b : Bool) → shared caps (f .there) ≡ b → surplus caps fs rest ≡ false → surplus caps (f ∷ fs) (cond b (some (whole f s)) none ∷ rest) ≡ false
     go true e ih = ap (λ (t : Bool). not t || surplus caps fs rest) e ∙ ih
     go false e ih = ih
-
--- an id of at most 8 bytes is too wide where its width is 4
-wide-id : (hello wide : Bool) (id : ℕ) → id < 256 ^ 8
-    → (not hello && leb (256 ^ cond (not hello && wide) 8 4) id) ≡ (not hello && not wide && leb 4294967296 id)
-wide-id true wide id h = refl
-wide-id false true id h = lt-leb (256 ^ 8) id h
-wide-id false false id h = refl
 
 no-tail : (t : Tail) (from : Side) (fs : List Field) (vs : List Value) (n : ℕ) → isNothing t ≡ true → (n ≡ 0 → ⊥) → tailOk t from fs vs n ≡ false
 no-tail nothing from fs vs n e z = ne-eqb n 0 z

@@ -13,7 +13,7 @@ use Rattle.kinds.specs.RoundTrip.{both-zero}
 use Rattle.packet.specs.declared.Packet.{Packet}
 use Rattle.packet.specs.Packet.{shownOf, contentOf, inPart}
 use Rattle.encoder.specs.Head.{FrontFits}
-use Rattle.encoder.specs.Again.{Octets, octets-drop, octets-take}
+use Rattle.kinds.specs.Again.{Octets, octets-drop, octets-take}
 
 pub accept : (l : Link) (id : ℕ) (p : Packet) (body : List ℕ) (room : ℕ) → FrontFits (sharedSet l) p → Octets body → id < 256 ^ 8
     → writeNumber l (contentOf (sharedSet l) id p body) room ≡ 0 → Accepted l (contentOf (sharedSet l) id p body)

@@ -7,7 +7,6 @@ use mathlib.Core.Option.{some}
 use Prim.Native.Nat.{ℕ, _+_, _-_, _*_, _≤_, _<_, min}
 use native.Mathlib.Omega.{arith}
 use lib.ListN.{length, take, drop, length-append, length-drop}
-use lib.Dec.{lit≤}
 use borrow.Author.Tests.{leb-true, not-false}
 use Rattle.number.specs.Little.{bytesOf}
 use Rattle.number.specs.Laws.{length-bytes}
@@ -15,7 +14,7 @@ use Rattle.header.specs.declared.Link.{Link}
 use Rattle.header.specs.Link.{sharedSet, idWidth}
 use Rattle.header.specs.Header.{headerBytes, headerNumber}
 use Rattle.header.specs.Laws.{short}
-use Rattle.kinds.specs.Table.{Bits, Field, Kind, kinds, kindAt}
+use Rattle.kinds.specs.Table.{Field, Kind, kinds, kindAt}
 use Rattle.kinds.specs.Content.{Content, shared, size, split, bytes, find, fieldsOf}
 use Rattle.kinds.specs.Number.{sends, surplus, wideId, complete, tailOk, sizeOk, bad, isNone, streamsAlone, kindNumber, wireNumber}
 use Rattle.kinds.specs.Codec.{layout, bodyOf, bodyLength, encode}
@@ -25,25 +24,11 @@ use Rattle.packet.specs.declared.Packet.{Packet}
 use Rattle.packet.specs.Packet.{Shown, shownOf, inPart, contentOf}
 use Rattle.rules.specs.declared.Facts.{Facts}
 use Rattle.rules.specs.Facts.{Shows}
-use Rattle.rules.proofs.Slots as slots
+use Rattle.kinds.specs.Slots.{found}
 use Rattle.encoder.specs.declared.Head.{Head}
 use Rattle.encoder.specs.Head.{IsHead, laidOut}
-use Rattle.encoder.specs.Again.{Octets, octets-take, octets-drop, again, bytes-append}
+use Rattle.kinds.specs.Again.{Octets, octets-take, octets-drop, again, bytes-append}
 use Rattle.encoder.proofs.Outcome.{capped}
-
--- ---- sizes
-
--- a layout has no more bytes than all its fields have
-some-size : (has : Bits → Bool) (fs : List Field) → size has fs ≤ size (λ b. true) fs
-some-size has [] = lit≤ tt
-some-size has (f ∷ fs) = omega (arith, some-size has fs, at-most (has (f .there)) (f .width * f .times))
-  where
-    at-most : (b : Bool) (n : ℕ) → cond b n 0 ≤ n
-    at-most true n = omega arith
-    at-most false n = omega arith
-
-pub few : (has : Bits → Bool) (slot : ℕ) → slot < 33 → size has (kindAt slot .fields) ≤ 65535
-few has slot h = omega (arith, some-size has (kindAt slot .fields), slots.short slot h)
 
 -- where the wire checks find nothing, each field has all its numbers
 sized : (l : Link) (q : Content) (k : Kind) → find (q .kind) kinds ≡ some k → wireNumber l q ≡ 0 → complete (k .fields) (q .fields) ≡ true
@@ -68,7 +53,7 @@ content l id p body = contentOf (sharedSet l) id p body
 
 module _ (l : Link) (id : ℕ) (p : Packet) (body : List ℕ) (f : Facts) (s : Shows (l .sender) (sharedSet l) id p body f) where
   known : find (shown l p .kind) kinds ≡ some (kindAt (f .slot))
-  known = ap (λ (m : ℕ). find m kinds) (sym (s .kind)) ∙ slots.found (f .slot) (s .small)
+  known = ap (λ (m : ℕ). find m kinds) (sym (s .kind)) ∙ found (f .slot) (s .small)
 
   fields : layout (shown l p .kind) ≡ kindAt (f .slot) .fields
   unfolding layout

@@ -1,5 +1,4 @@
 pub mod Laid
-pub mod Slots
 pub mod Outcome
 pub mod Body
 pub mod Last

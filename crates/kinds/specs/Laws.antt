@@ -159,7 +159,7 @@ rest-back has fs vs q h = drop-at (bytes fs vs) q (size has fs) (length-of has f
 
 -- ---- what is read
 
-length-numbers : (w n : ℕ) (s : List ℕ) (at : ℕ) → length (numbers w n s at) ≡ n
+pub length-numbers : (w n : ℕ) (s : List ℕ) (at : ℕ) → length (numbers w n s at) ≡ n
 length-numbers w zero s at = refl
 length-numbers w (suc n) s at = ap suc (length-numbers w n s (at + w))
 
@@ -259,3 +259,12 @@ fitting-append fs [] ws h k = k
 fitting-append [] (v ∷ vs) ws h k = absurd h
 fitting-append (f ∷ fs) (none ∷ vs) ws h k = fitting-append fs vs ws h k
 fitting-append (f ∷ fs) (some xs ∷ vs) ws h k = (h .0, fitting-append fs vs ws (h .1) k)
+
+-- ---- ids
+
+-- an id of at most 8 bytes is too wide where its width is 4
+pub wide-id : (hello wide : Bool) (id : ℕ) → id < 256 ^ 8
+    → (not hello && leb (256 ^ cond (not hello && wide) 8 4) id) ≡ (not hello && not wide && leb 4294967296 id)
+wide-id true wide id h = refl
+wide-id false true id h = lt-leb (256 ^ 8) id h
+wide-id false false id h = refl

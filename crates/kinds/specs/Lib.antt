@@ -5,3 +5,5 @@ pub mod Codec
 pub mod Laws
 pub mod RoundTrip
 pub mod Examples
+pub mod Slots
+pub mod Again

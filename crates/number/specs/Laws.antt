@@ -1,12 +1,12 @@
 -- The laws of numbers in bytes, each over the width.
 -- Assumes nothing.
-use mathlib.Core.Path.{_≡_, refl, sym, ap, _∙_}
+use mathlib.Core.Path.{_≡_, refl, sym, ap, ap₂, _∙_}
 use mathlib.Core.List.{List, [], _∷_, _++_}
 use Prim.Native.Nat.{ℕ, zero, suc, _+_, _-_, _*_, _/_, _%_, _^_, _≤_, _<_}
-use native.Mathlib.Nat.{pow-suc, zero-add, suc-add, add-zero, le-of-suc-le-suc, not-suc-le-zero}
+use native.Mathlib.Nat.{pow-suc, zero-add, suc-add, add-suc, add-zero}
 use native.Mathlib.Omega.{arith}
-use lib.ListN.{length, getD, set, drop}
-use lib.Seq.{sets}
+use lib.ListN.{length, getD, set, drop, List·getD-append}
+use lib.Seq.{sets, getD-drop}
 use lib.Dec.{lit<}
 use Rattle.number.specs.Little.{le, bytesOf}
 
@@ -45,3 +45,14 @@ sets-append l i [] ys = rw add-zero
 sets-append l i (x ∷ xs) ys =
     let e : suc i + length xs ≡ i + suc (length xs) = omega arith in
     sets-append (set l i x) (suc i) xs ys ∙ ap (λ (m : ℕ). sets (sets (set l i x) (suc i) xs) m ys) e
+
+-- what is read behind a place is read as if that were the first
+pub le-drop : (n k : ℕ) (s : List ℕ) (at : ℕ) → le n (drop k s) at ≡ le n s (k + at)
+le-drop zero k s at = refl
+le-drop (suc n) k s at = rw (getD-drop k s at 0, le-drop n k s (suc at), add-suc k at)
+
+-- a number whose bytes all stand in a is read off a alone
+pub le-front : (n : ℕ) (a b : List ℕ) (at : ℕ) → at + n ≤ length a → le n (a ++ b) at ≡ le n a at
+le-front zero a b at h = refl
+le-front (suc n) a b at h =
+    ap₂ (λ (x y : ℕ). x + 256 * y) (List·getD-append a b 0 at (omega arith)) (le-front n a b (suc at) (omega arith))

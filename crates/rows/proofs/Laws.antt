@@ -4,30 +4,24 @@ use mathlib.Core.Path.{_≡_, refl, sym, ap, _∙_}
 use mathlib.Core.Bool.{Bool, true, false, cond, _&&_}
 use mathlib.Core.List.{List, [], _∷_}
 use Prim.Native.Nat.{ℕ, zero, suc, _+_, _-_, _*_, _^_, _≤_, _<_}
-use native.Mathlib.Nat.{pow-suc, add-zero, add-suc, zero-add, add-assoc, add-comm, suc-mul, mul-comm, zero-mul, not-suc-le-zero, le-of-suc-le-suc}
+use native.Mathlib.Nat.{pow-suc, add-zero, zero-add, add-assoc, add-comm, suc-mul, mul-comm, zero-mul, not-suc-le-zero, le-of-suc-le-suc}
 use native.Mathlib.Omega.{arith}
 use lib.ListN.{length, getD, drop, length-drop, List·getD-eq-default}
-use lib.Seq.{getD-drop, drop-drop}
+use lib.Seq.{drop-drop}
 use lib.Dec.{leb, lit<, lit≤}
 use borrow.Author.Tests.{le-leb, lt-leb}
 use Rattle.number.specs.Little.{le}
+use Rattle.number.specs.Laws.{le-drop}
 use Rattle.kinds.specs.Table.{kinds}
 use Rattle.kinds.specs.Content.{numbers, split}
 use Rattle.kinds.specs.Codec.{layout}
+use Rattle.kinds.specs.Laws.{length-numbers}
 use Rattle.rows.specs.declared.EndpointRow.{EndpointRow}
 use Rattle.rows.specs.declared.InterfaceRow.{InterfaceRow}
 use Rattle.packet.specs.declared.Optional16.the-variants.{Absent, Present}
 use Rattle.packet.specs.Packet.{columnsOf}
 use Rattle.rows.specs.declared.Optional32.the-variants.{Absent as Absent32, Present as Present32}
 use Rattle.rows.specs.Rows.{cellAt, element, optional16Of, optional32Of, interfaceRow, endpointRow}
-
-pub le-drop : (n k : ℕ) (s : List ℕ) (at : ℕ) → le n (drop k s) at ≡ le n s (k + at)
-le-drop zero k s at = refl
-le-drop (suc n) k s at = rw (getD-drop k s at 0, le-drop n k s (suc at), add-suc k at)
-
-length-numbers : (w n : ℕ) (s : List ℕ) (at : ℕ) → length (numbers w n s at) ≡ n
-length-numbers w zero s at = refl
-length-numbers w (suc n) s at = ap suc (length-numbers w n s (at + w))
 
 at-number : (w n : ℕ) (s : List ℕ) (at i : ℕ) → i < n → getD (numbers w n s at) i 0 ≡ le w s (at + i * w)
 at-number w zero s at i h = absurd (not-suc-le-zero h)

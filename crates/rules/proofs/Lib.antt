@@ -1,5 +1,5 @@
 pub mod EachKind
 pub mod Turns
 pub mod Place
-pub mod Slots
+pub mod Words
 pub mod Number

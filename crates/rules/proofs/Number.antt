@@ -1,29 +1,30 @@
 -- A packet's number, from the facts that the code has of it.
 -- Assumes nothing.
 use Prim.Native.Nat.{ℕ, zero, suc, _+_, _-_, _^_, _<_}
-use native.Mathlib.Nat.{add-zero, add-suc}
+use native.Mathlib.Nat.{add-zero}
 use mathlib.Core.Path.{_≡_, refl, sym, ap, _∙_}
 use mathlib.Core.Bool.{Bool, true, false, cond, not, _&&_, _||_}
 use mathlib.Core.List.{List}
 use mathlib.Core.Option.{Option, some}
 use lib.ListN.{length, drop, length-drop}
-use lib.Seq.{getD-drop}
 use lib.Dec.{eqb, leb}
-use borrow.Author.Tests.{lt-leb}
 use Rattle.number.specs.Little.{le}
 use Rattle.number.specs.Bits.{hasBit}
+use Rattle.number.specs.Laws.{le-drop}
 use Rattle.header.specs.declared.Link.{Link}
 use Rattle.header.specs.Link.{sharedSet, idWidth}
 use Rattle.kinds.specs.Table.{Kind, kinds, kindAt}
 use Rattle.kinds.specs.Content.{Content, shared, size, find, fieldsOf}
 use Rattle.kinds.specs.Number.{sends, wideId, sizeOk, bad, isNone, streamsAlone, inOrder, kindNumber, byKind, wireNumber}
 use Rattle.kinds.specs.Codec.{layout}
+use Rattle.kinds.specs.Laws.{wide-id}
+use Rattle.kinds.specs.Slots.{found, few, only-hello}
 use Rattle.packet.specs.declared.Packet.{Packet}
 use Rattle.packet.specs.Packet.{Shown, shownOf, inPart, contentOf}
 use Rattle.rules.specs.declared.Facts.{Facts}
 use Rattle.rules.specs.Facts.{Shows, mayFollow}
 use Rattle.rules.proofs.Place.{none-bad}
-use Rattle.rules.proofs.Slots.{found, short, only-hello, only-words}
+use Rattle.rules.proofs.Words.{only-words}
 
 -- the number by the facts, the packet's part of the body and the id
 abbrev pub numberBy : Link → ℕ → Facts → List ℕ → ℕ
@@ -33,18 +34,6 @@ numberBy l id f rows =
     (not (leb (f .table) (length rows) && mayFollow (f .slot) (f .payload) (length rows - f .table)))
     (not (eqb (f .bad) 65536))
     (eqb (f .slot) 0 && (hasBit (le 4 rows (f .table)) 0 && not (hasBit (le 4 rows (f .table)) 4)))
-
--- what is read behind a place is read as if that were the first
-le-drop : (n k : ℕ) (s : List ℕ) (i : ℕ) → le n (drop k s) i ≡ le n s (k + i)
-le-drop zero k s i = refl
-le-drop (suc n) k s i = rw (getD-drop k s i 0, le-drop n k s (suc i), add-suc k i)
-
--- an id of at most 8 bytes is too wide where it has 4 only
-wide-id : (hello wide : Bool) (id : ℕ) → id < 256 ^ 8
-    → (not hello && leb (256 ^ cond (not hello && wide) 8 4) id) ≡ (not hello && not wide && leb 4294967296 id)
-wide-id true wide id h = refl
-wide-id false true id h = lt-leb (256 ^ 8) id h
-wide-id false false id h = refl
 
 pub number : (l : Link) (id : ℕ) (p : Packet) (body : List ℕ) (f : Facts) → id < 256 ^ 8 → Shows (l .sender) (sharedSet l) id p body f
     → wireNumber l (contentOf (sharedSet l) id p body) ≡ numberBy l id f (inPart (f .rest) body)
@@ -103,7 +92,7 @@ number l id p body f small s = ap (λ (o : Option Kind). byKind l o q) known ∙
     go : (t : Bool) → leb (f .table) n ≡ t → kindNumber l k q ≡ numberBy l id f rows
     go true t =
         let kept : isNone (bad (l .sender) caps k q) ≡ eqb (f .bad) 65536 =
-        none-bad (l .sender) caps k q (short (f .slot) (s .small)) ∙ ap (λ (m : ℕ). eqb m 65536) (s .bad t) in
+        none-bad (l .sender) caps k q (few (λ b. true) (f .slot) (s .small)) ∙ ap (λ (m : ℕ). eqb m 65536) (s .bad t) in
         λ i. inOrder (not (sends (k .sender) (l .sender))) (not (shared caps (k .needs)) || s .surplus i || wide i) (not (sized i)) (not (kept i)) (streams i)
     go false t =
         (λ i. inOrder (not (sends (k .sender) (l .sender))) (not (shared caps (k .needs)) || s .surplus i || wide i) (not (sized i))

@@ -14,16 +14,13 @@ use Rattle.header.specs.declared.Side.{Side}
 use Rattle.kinds.specs.Table.{Field, Tail, nothing, words, string, payload, payload-onward, Id, id-any, id-zero, Kind}
 use Rattle.kinds.specs.Content.{Value, Content, shared, sizeOf, size, named}
 use Rattle.kinds.specs.Number.{zeroAt, holds, orElse, firstBad, badField, badFields, badTail, badId, bad, isNone}
+use Rattle.kinds.specs.Slots.{at-most, some-size}
 use Rattle.rules.specs.Facts.{placeOf}
 
 -- a place that is at most m, or none
 abbrev Within : ℕ → Option ℕ → Type 0
 Within m none = Unit {0}
 Within m (some a) = a ≤ m
-
--- the bytes of all fields, whether they are there or not
-abbrev pub fullSize : List Field → ℕ
-fullSize fs = size (λ b. true) fs
 
 either : (m : ℕ) (b : Bool) (x y : Option ℕ) → Within m x → Within m y → Within m (cond b x y)
 either m true x y h k = h
@@ -43,16 +40,7 @@ bad-field : (m : ℕ) (from : Side) (caps e : ℕ) (f : Field) (v : Value) (at :
 bad-field m from caps e f none at h = either m (shared caps (f .there)) (some at) none (omega arith) tt
 bad-field m from caps e f (some xs) at h = first-bad m (holds (f .rule) from caps e xs) (f .width) (f .times) 0 at h
 
--- a choice of n or nothing
-pub at-most : (b : Bool) (n : ℕ) → cond b n 0 ≤ n
-at-most true n = omega arith
-at-most false n = omega arith
-
-some-size : (caps : ℕ) (fs : List Field) → size (shared caps) fs ≤ fullSize fs
-some-size caps [] = lit≤ tt
-some-size caps (f ∷ fs) = omega (arith, some-size caps fs, at-most (shared caps (f .there)) (f .width * f .times))
-
-bad-fields : (m : ℕ) (from : Side) (caps e : ℕ) (fs : List Field) (vs : List Value) (at : ℕ) → at + fullSize fs ≤ m → Within m (badFields from caps e fs vs at)
+bad-fields : (m : ℕ) (from : Side) (caps e : ℕ) (fs : List Field) (vs : List Value) (at : ℕ) → at + size (λ b. true) fs ≤ m → Within m (badFields from caps e fs vs at)
 bad-fields m from caps e [] vs at h = tt
 bad-fields m from caps e (f ∷ fs) [] at h = tt
 bad-fields m from caps e (f ∷ fs) (v ∷ vs) at h =
@@ -72,7 +60,7 @@ bad-id : (r : Id) (n : ℕ) → Within 65535 (badId r n)
 bad-id id-any n = tt
 bad-id id-zero n = either 65535 (eqb n 0) none (some 65535) tt (lit≤ tt)
 
-within : (from : Side) (caps : ℕ) (k : Kind) (q : Content) → fullSize (k .fields) ≤ 65535 → Within 65535 (bad from caps k q)
+within : (from : Side) (caps : ℕ) (k : Kind) (q : Content) → size (λ b. true) (k .fields) ≤ 65535 → Within 65535 (bad from caps k q)
 unfolding bad
 within from caps k q h =
     let e : ℕ = named "endpoint" (k .fields) (q .fields) in
@@ -80,12 +68,12 @@ within from caps k q h =
     let i : Option ℕ = badId (k .id) (q .id) in
     first 65535 (badFields from caps e (k .fields) (q .fields) 0) (orElse t i)
     (bad-fields 65535 from caps e (k .fields) (q .fields) 0 (omega arith))
-    (first 65535 t i (bad-tail 65535 (k .tail) (q .rest) (size (shared caps) (k .fields)) (omega (arith, some-size caps (k .fields)))) (bad-id (k .id) (q .id)))
+    (first 65535 t i (bad-tail 65535 (k .tail) (q .rest) (size (shared caps) (k .fields)) (omega (arith, some-size (shared caps) (k .fields)))) (bad-id (k .id) (q .id)))
 
 none-place : (o : Option ℕ) → Within 65535 o → isNone o ≡ eqb (placeOf o) 65536
 none-place none h = refl
 none-place (some a) h = sym (ne-eqb a 65536 (omega arith))
 
 -- no rule is broken exactly where the place is 65,536
-pub none-bad : (from : Side) (caps : ℕ) (k : Kind) (q : Content) → fullSize (k .fields) ≤ 65535 → isNone (bad from caps k q) ≡ eqb (placeOf (bad from caps k q)) 65536
+pub none-bad : (from : Side) (caps : ℕ) (k : Kind) (q : Content) → size (λ b. true) (k .fields) ≤ 65535 → isNone (bad from caps k q) ≡ eqb (placeOf (bad from caps k q)) 65536
 none-bad from caps k q h = none-place (bad from caps k q) (within from caps k q h)

@@ -1,12 +1,12 @@
 -- usbredir packets as a wire layer: its parts are header's and kinds' definitions. It has the laws, so that no two accepted packets
 -- have the same bytes, and no accepted packet's bytes begin another's.
 -- Assumes nothing.
-use Prim.Native.Nat.{ℕ, zero, suc, _+_, _*_, _≤_}
+use Prim.Native.Nat.{ℕ, _≤_}
 use native.Mathlib.Omega.{arith}
-use mathlib.Core.Path.{_≡_, refl, ap, ap₂, _∙_}
+use mathlib.Core.Path.{_≡_, ap, ap₂}
 use mathlib.Core.List.{List, [], _++_}
-use lib.ListN.{length, getD, List·getD-append}
-use Rattle.number.specs.Little.{le}
+use lib.ListN.{length}
+use Rattle.number.specs.Laws.{le-front}
 use Rattle.header.specs.declared.Link.{Link}
 use Rattle.header.specs.Header.{kindOf, lengthOf, headerSize, headerNumber}
 use Rattle.header.specs.Laws.{wide, narrow, short}
@@ -15,12 +15,6 @@ use Rattle.kinds.specs.Codec.{decode, encode, readNumber, Accepted}
 use Rattle.kinds.specs.RoundTrip.{RoundTrip, round-trip}
 use Rattle.roundtrip.specs.Wire.{Wire, Good, WireLaws}
 use Rattle.roundtrip.specs.Prefix.{same, not-begun}
-
--- a number whose bytes all stand in a is read off a alone
-pub le-front : (n : ℕ) (a b : List ℕ) (at : ℕ) → at + n ≤ length a → le n (a ++ b) at ≡ le n a at
-le-front zero a b at h = refl
-le-front (suc n) a b at h =
-    ap₂ (λ (x y : ℕ). x + 256 * y) (List·getD-append a b 0 at (omega arith)) (le-front n a b (suc at) (omega arith))
 
 -- packets of one direction under one pair of hellos
 abbrev pub usbredir : Wire

@@ -1,10 +1,10 @@
 -- `decoder::read` meets its contract: the steps of the code are those of `readOf` (`Told`), and the kinds stand in the table by their
--- numbers (`Slots`).
+-- numbers (`kinds/specs/Slots`).
 -- Assumes nothing.
 use native.Mathlib.Omega.{arith}
 use denote.Ref.{now}
 use Rattle.decoder.proofs.Told.{small, short-refused, header-refused, length-refused, kind-unknown, kind-known}
-use Rattle.decoder.proofs.Slots.{low, high, between, above}
+use Rattle.kinds.specs.Slots.{low, high, between, above}
 use borrow.Author.Needs.{needs}
 use Rattle.decoder.proofs.read.Statement.{statement}
 use Rattle.decoder.proofs.read.Tie as tie

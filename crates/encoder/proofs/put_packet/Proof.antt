@@ -15,8 +15,9 @@ use Rattle.kinds.specs.Codec.{bodyLength, packetNumber, encode}
 use Rattle.packet.specs.Packet.{contentOf}
 use Rattle.rules.specs.Facts.{Shows}
 use Rattle.encoder.specs.Head.{laidOut}
-use Rattle.encoder.specs.Again.{Octets}
-use Rattle.encoder.proofs.Body.{few, header, short-rows, encoded, sum}
+use Rattle.kinds.specs.Again.{Octets}
+use Rattle.kinds.specs.Slots.{few}
+use Rattle.encoder.proofs.Body.{header, short-rows, encoded, sum}
 use Rattle.encoder.proofs.Outcome.{by-header, by-wire, refused, no-room, put-out}
 use borrow.Author.Needs.{needs}
 use Rattle.encoder.proofs.put_packet.Statement.{statement}

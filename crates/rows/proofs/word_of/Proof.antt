@@ -5,7 +5,7 @@ use mathlib.Core.Path.{_≡_, sym, ap, _∙_}
 use native.Mathlib.Omega.{arith}
 use lib.ListN.{length, drop, length-drop}
 use borrow.Author.Tests.{lt-ltb, le-ltb, le-leb, lt-leb}
-use Rattle.rows.proofs.Laws.{le-drop}
+use Rattle.number.specs.Laws.{le-drop}
 use Rattle.packet.specs.Packet.{inPart}
 use borrow.Author.Needs.{needs}
 use Rattle.rows.proofs.word_of.Statement.{statement}

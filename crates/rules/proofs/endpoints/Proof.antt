@@ -2,7 +2,7 @@
 -- Assumes nothing.
 use native.Mathlib.Omega.{arith}
 use borrow.Author.Needs.{needs}
-use Rattle.rules.proofs.Place.{at-most}
+use Rattle.kinds.specs.Slots.{at-most}
 use Rattle.rules.proofs.endpoints.Statement.{statement}
 use Rattle.rules.proofs.endpoints.Tie as tie
 
