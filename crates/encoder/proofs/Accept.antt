@@ -3,28 +3,30 @@
 use mathlib.Core.Path.{_≡_}
 use mathlib.Core.List.{List}
 use Prim.Native.Nat.{ℕ, _<_, _^_}
-use lib.ListN.{length, drop}
+use lib.ListN.{length, take, drop}
 use Rattle.header.specs.declared.Link.{Link}
 use Rattle.header.specs.Link.{sharedSet}
 use Rattle.kinds.specs.Content.{split}
-use Rattle.kinds.specs.Codec.{layout, writeNumber, packetNumber, Fitting, Accepted}
+use Rattle.kinds.specs.Codec.{layout, packetNumber, Fitting, Accepted}
 use Rattle.kinds.specs.Laws.{fitting-split, fitting-append}
-use Rattle.kinds.specs.RoundTrip.{both-zero}
 use Rattle.packet.specs.declared.Packet.{Packet}
 use Rattle.packet.specs.Packet.{shownOf, contentOf, inPart}
-use Rattle.encoder.specs.Head.{FrontFits}
 use Rattle.kinds.specs.Again.{Octets, octets-drop, octets-take}
 
-pub accept : (l : Link) (id : ℕ) (p : Packet) (body : List ℕ) (room : ℕ) → FrontFits (sharedSet l) p → Octets body → id < 256 ^ 8
-    → writeNumber l (contentOf (sharedSet l) id p body) room ≡ 0 → Accepted l (contentOf (sharedSet l) id p body)
-unfolding contentOf writeNumber
-accept l id p body room f b i z =
+-- the fields that a packet holds as numbers fit
+abbrev pub FrontFits : ℕ → Packet → Type 0
+FrontFits caps p = Fitting (take (length (shownOf caps p .front)) (layout (shownOf caps p .kind))) (shownOf caps p .front)
+
+pub accept : (l : Link) (id : ℕ) (p : Packet) (body : List ℕ) → FrontFits (sharedSet l) p → Octets body → id < 256 ^ 8
+    → packetNumber l (contentOf (sharedSet l) id p body) ≡ 0 → Accepted l (contentOf (sharedSet l) id p body)
+unfolding contentOf
+accept l id p body f b i z =
     let s = shownOf (sharedSet l) p in
     let rows : List ℕ = inPart (s .part) body in
     record {
       fields =
           fitting-append (layout (s .kind)) (s .front) (split (s .columns) (drop (length (s .front)) (layout (s .kind))) rows) f
-          (fitting-split (s .columns) (drop (length (s .front)) (layout (s .kind))) rows (octets-drop (s .part .start) _ (octets-take (s .part .end) body b)));
+          (fitting-split (s .columns) (drop (length (s .front)) (layout (s .kind))) rows (octets-drop (s .part .start) (take (s .part .end) body) (octets-take (s .part .end) body b)));
       id = i;
-      number = both-zero (packetNumber l (contentOf (sharedSet l) id p body)) _ z .0;
+      number = z;
     }

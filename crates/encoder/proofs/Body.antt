@@ -19,29 +19,16 @@ use Rattle.kinds.specs.Content.{Content, shared, size, split, bytes, find, fiel
 use Rattle.kinds.specs.Number.{sends, surplus, wideId, complete, tailOk, sizeOk, bad, isNone, streamsAlone, kindNumber, wireNumber}
 use Rattle.kinds.specs.Codec.{layout, bodyOf, bodyLength, encode}
 use Rattle.kinds.specs.Laws.{and-left}
-use Rattle.kinds.specs.RoundTrip.{none-holds}
+use Rattle.kinds.specs.Reread.{all-there}
 use Rattle.packet.specs.declared.Packet.{Packet}
 use Rattle.packet.specs.Packet.{Shown, shownOf, inPart, contentOf}
 use Rattle.rules.specs.declared.Facts.{Facts}
 use Rattle.rules.specs.Facts.{Shows}
 use Rattle.kinds.specs.Slots.{found}
 use Rattle.encoder.specs.declared.Head.{Head}
-use Rattle.encoder.specs.Head.{IsHead, laidOut}
+use Rattle.encoder.specs.Head.{Holds, laidOut}
 use Rattle.kinds.specs.Again.{Octets, octets-take, octets-drop, again, bytes-append}
 use Rattle.encoder.proofs.Outcome.{capped}
-
--- where the wire checks find nothing, each field has all its numbers
-sized : (l : Link) (q : Content) (k : Kind) → find (q .kind) kinds ≡ some k → wireNumber l q ≡ 0 → complete (k .fields) (q .fields) ≡ true
-unfolding wireNumber kindNumber
-sized l q k f z =
-    let n : kindNumber l k q ≡ 0 = rw f at z in
-    let h = none-holds (not (sends (k .sender) (l .sender)))
-    (not (shared (sharedSet l) (k .needs)) || surplus (sharedSet l) (k .fields) (q .fields) || wideId l q)
-    (not (sizeOk (l .sender) k q))
-    (not (isNone (bad (l .sender) (sharedSet l) k q)))
-    (streamsAlone (k .tail) (q .rest)) n in
-    and-left (complete (k .fields) (q .fields)) (tailOk (k .tail) (l .sender) (k .fields) (q .fields) (length (q .rest)))
-    (not-false (sizeOk (l .sender) k q) (h .2))
 
 -- ---- one packet, by its facts
 
@@ -91,7 +78,7 @@ module _ (l : Link) (id : ℕ) (p : Packet) (body : List ℕ) (f : Facts) (s : S
     unfolding contentOf
     full =
         leb-true (f .table) (length (inPart (f .rest) body))
-        (sym (s .complete) ∙ sized l (content l id p body) (kindAt (f .slot)) known w)
+        (sym (s .complete) ∙ all-there l (content l id p body) (kindAt (f .slot)) known w)
 
     octets : Octets (inPart (f .rest) body)
     octets = octets-drop (f .rest .start) (take (f .rest .end) body) (octets-take (f .rest .end) body b)
@@ -113,7 +100,7 @@ module _ (l : Link) (id : ℕ) (p : Packet) (body : List ℕ) (f : Facts) (s : S
         )
 
     -- the packet, from the head and the part
-    pub encoded : (h : Head) → IsHead (sharedSet l) p h
+    pub encoded : (h : Head) → Holds h (bytes (layout (shown l p .kind)) (shown l p .front))
         → encode l (content l id p body)
         ≡ laidOut (idWidth l (kindAt (f .slot) .number)) (kindAt (f .slot) .number) id (take (h .n) (h .bytes) ++ inPart (f .rest) body)
     unfolding contentOf encode headerBytes

@@ -14,9 +14,9 @@ use Rattle.header.specs.declared.Link.{Link}
 use Rattle.header.specs.Header.{headerNumber}
 use Rattle.kinds.specs.Content.{Content}
 use Rattle.kinds.specs.Number.{wireNumber}
-use Rattle.kinds.specs.Codec.{bodyLength, encode, packetNumber, writeNumber, written, writtenSize}
+use Rattle.kinds.specs.Codec.{bodyLength, encode, packetNumber, writeNumber, written, writtenSize, Accepted}
 use Rattle.encoder.specs.declared.Written.{Written}
-use Rattle.encoder.specs.Written.{Puts}
+use Rattle.encoder.specs.Written.{Writes}
 use Rattle.encoder.proofs.Laid.{laid}
 
 -- a length over 65,536 is refused as one of 65,536 is
@@ -48,23 +48,24 @@ module _ (l : Link) (q : Content) where
 -- ---- what is left behind
 
 module _ (l : Link) (q : Content) (out : List ℕ) where
-  pub refused : (n : ℕ) → packetNumber l q ≡ n → (n ≡ 0 → ⊥) → Puts l q out (answer n 0) out
+  pub refused : (n : ℕ) → packetNumber l q ≡ n → (n ≡ 0 → ⊥) → Writes l q out (answer n 0) out
   unfolding writeNumber writtenSize written
   refused n e h =
       let w : writeNumber l q (length out) ≡ n = rw (e, ne-eqb n 0 h) in
-      record { number = sym w; size = rw (w, ne-eqb n 0 h); output = rw (w, ne-eqb n 0 h) }
+      record { number = sym w; size = rw (w, ne-eqb n 0 h); output = rw (w, ne-eqb n 0 h); accepted = λ z. absurd (h z) }
 
   -- "40 writer only: output shorter than the packet"
-  pub no-room : packetNumber l q ≡ 0 → length out < length (encode l q) → Puts l q out (answer 40 0) out
+  pub no-room : packetNumber l q ≡ 0 → length out < length (encode l q) → Writes l q out (answer 40 0) out
   unfolding writeNumber writtenSize written
   no-room e h =
       let w : writeNumber l q (length out) ≡ 40 = rw (e, lt-ltb (length out) (length (encode l q)) h) in
-      record { number = sym w; size = rw w; output = rw w }
+      record { number = sym w; size = rw w; output = rw w; accepted = λ z. absurd (omega arith) }
 
-  pub put-out : (n : ℕ) (b after : List ℕ) → packetNumber l q ≡ 0 → length (encode l q) ≡ n → n ≤ length out → encode l q ≡ b → after ≡ sets out 0 b
-      → Puts l q out (answer 0 n) after
+  pub put-out : (n : ℕ) (b after : List ℕ) → Accepted l q → length (encode l q) ≡ n → n ≤ length out → encode l q ≡ b → after ≡ sets out 0 b
+      → Writes l q out (answer 0 n) after
   unfolding writeNumber writtenSize written
-  put-out n b after e m h d r =
+  put-out n b after a m h d r =
+      let e : packetNumber l q ≡ 0 = a .number in
       let k : length (encode l q) ≤ length out = omega (arith, m) in
       let w : writeNumber l q (length out) ≡ 0 = rw (e, le-ltb (length out) (length (encode l q)) k) in
-      record { number = sym w; size = rw w (sym m); output = rw (w, r, ← d) (laid out (encode l q) k) }
+      record { number = sym w; size = rw w (sym m); output = rw (w, r, ← d) (laid out (encode l q) k); accepted = λ z. a }

@@ -19,9 +19,6 @@ pub record Holds (h : Head) (bs : List ℕ) : Type 0 where
   pub short : h .n ≤ 10
   pub ten : length (h .bytes) ≡ 10
 
-abbrev pub IsHead : ℕ → Packet → Head → Type 0
-IsHead caps p h = Holds h (bytes (layout (shownOf caps p .kind)) (shownOf caps p .front))
-
 abbrev pub connectBytes : ℕ → ℕ → ℕ → ℕ → ℕ → ℕ → Optional16 → List ℕ
 connectBytes a b c d e f version =
     bytesOf 1 a ++ (bytesOf 1 b ++ (bytesOf 1 c ++ (bytesOf 1 d ++ (bytesOf 2 e ++ (bytesOf 2 f ++ (bytesOfValue 2 (optional version) ++ []))))))
@@ -33,10 +30,13 @@ bulkBytes caps e status n stream = bytesOf 1 e ++ (bytesOf 1 status ++ (bytesOf 
 abbrev pub laidOut : ℕ → ℕ → ℕ → List ℕ → List ℕ
 laidOut width kind id body = bytesOf 4 kind ++ (bytesOf 4 (length body) ++ (bytesOf width id ++ body))
 
--- the fields that a packet holds as numbers fit
-abbrev pub FrontFits : ℕ → Packet → Type 0
-FrontFits caps p = Fitting (take (length (shownOf caps p .front)) (layout (shownOf caps p .kind))) (shownOf caps p .front)
+-- ---- a packet's head
 
 abbrev pub VersionFits : Optional16 → Type 0
 VersionFits Absent = Unit {0}
 VersionFits (Present x) = x < 256 ^ 2
+
+-- the bytes are those of the fields that the packet holds as numbers, and each of these fits its field, as its type says
+pub record IsHead (caps : ℕ) (p : Packet) (h : Head) : Type 0 where
+  pub holds : Holds h (bytes (layout (shownOf caps p .kind)) (shownOf caps p .front))
+  pub fits : Fitting (take (length (shownOf caps p .front)) (layout (shownOf caps p .kind))) (shownOf caps p .front)

@@ -8,8 +8,8 @@ ghost use Rattle.number.specs.Little.{bytesOf};
 ghost use Rattle.header.specs.Link.{sharedSet};
 ghost use Rattle.kinds.specs.Table.{kindAt};
 ghost use Rattle.packet.specs.Packet.{contentOf};
-ghost use Rattle.encoder.specs.Written.{Puts, Writes};
-ghost use Rattle.encoder.specs.Head.{FrontFits, VersionFits, Holds, IsHead, laidOut};
+ghost use Rattle.encoder.specs.Written.{Writes};
+ghost use Rattle.encoder.specs.Head.{VersionFits, connectBytes, Holds, IsHead, laidOut};
 use header::Link;
 use header::header_number;
 use header::id_width;
@@ -17,9 +17,9 @@ use header::shared_set;
 use kinds::fields_size;
 use number::has_bit;
 use number::lay;
-use number::less;
+use number::minimum;
 use number::put;
-use number::smaller;
+use number::saturating_sub;
 use packet::Optional16;
 use packet::Packet;
 use packet::part_of;
@@ -313,7 +313,7 @@ fn head_bbbbwww(x0: u8, x1: u8, x2: u8, x3: u8, x4: u16, x5: u16, x6: u16) -> He
 }
 
 fn head_connect(x0: u8, x1: u8, x2: u8, x3: u8, x4: u16, x5: u16, x6: Optional16) -> Head
-    ensures { λ r. ⌜ Holds r (Rattle.encoder.specs.Head.connectBytes x0 x1 x2 x3 x4 x5 x6) ⌝ }
+    ensures { λ r. ⌜ Holds r (connectBytes x0 x1 x2 x3 x4 x5 x6) × VersionFits x6 ⌝ }
 {
     match x6 {
         Optional16::Absent => head_bbbbww(x0, x1, x2, x3, x4, x5),
@@ -476,126 +476,9 @@ fn lay_out(width: usize, kind: u32, id: u64, h: Head, rest: &[u8], out: &mut [u8
     lay(out, 8 + width + n, rest);
 }
 
-// What the types say of a packet's numbers: each fits its field. The two functions only carry that into the contract of `write`.
-fn version_fits(v: Optional16) -> bool
-    ensures { λ r. ⌜ VersionFits v ⌝ }
-{
-    match v {
-        Optional16::Absent => true,
-        Optional16::Present(x) => x == x,
-    }
-}
-
-fn front_fits(caps: u32, p: Packet) -> bool
-    ensures { λ r. ⌜ FrontFits caps p ⌝ }
-{
-    match p {
-        Packet::Hello { rest: _ } => true,
-        Packet::Connect {
-            speed,
-            class,
-            subclass,
-            protocol,
-            vendor,
-            product,
-            version,
-        } => version_fits(version),
-        Packet::Disconnect => true,
-        Packet::Reset => true,
-        Packet::InterfaceTable { count, rows: _ } => true,
-        Packet::EndpointTable {
-            rows: _,
-            max_packet: _,
-            max_streams: _,
-        } => true,
-        Packet::SetConfiguration { configuration } => true,
-        Packet::GetConfiguration => true,
-        Packet::ConfigurationStatus {
-            status,
-            configuration,
-        } => true,
-        Packet::SetAlt { interface, alt } => true,
-        Packet::GetAlt { interface } => true,
-        Packet::AltStatus {
-            status,
-            interface,
-            alt,
-        } => true,
-        Packet::StartIso {
-            endpoint,
-            packets,
-            urbs,
-        } => true,
-        Packet::StopIso { endpoint } => true,
-        Packet::IsoStatus { status, endpoint } => true,
-        Packet::StartInterrupt { endpoint } => true,
-        Packet::StopInterrupt { endpoint } => true,
-        Packet::InterruptStatus { status, endpoint } => true,
-        Packet::AllocStreams { mask, count } => true,
-        Packet::FreeStreams { mask } => true,
-        Packet::StreamsStatus {
-            mask,
-            count,
-            status,
-        } => true,
-        Packet::Cancel => true,
-        Packet::FilterReject => true,
-        Packet::Filter { string: _ } => true,
-        Packet::DisconnectAck => true,
-        Packet::StartBulkReceiving {
-            stream,
-            bytes,
-            endpoint,
-            transfers,
-        } => true,
-        Packet::StopBulkReceiving { stream, endpoint } => true,
-        Packet::BulkReceivingStatus {
-            stream,
-            endpoint,
-            status,
-        } => true,
-        Packet::Control {
-            endpoint,
-            request,
-            requesttype,
-            status,
-            value,
-            index,
-            length,
-            data: _,
-        } => true,
-        Packet::Bulk {
-            endpoint,
-            status,
-            length,
-            stream,
-            data: _,
-        } => true,
-        Packet::Iso {
-            endpoint,
-            status,
-            length,
-            data: _,
-        } => true,
-        Packet::Interrupt {
-            endpoint,
-            status,
-            length,
-            data: _,
-        } => true,
-        Packet::BufferedBulk {
-            stream,
-            length,
-            endpoint,
-            status,
-            data: _,
-        } => true,
-    }
-}
-
-// The number, and the packet at the front of out where it is 0.
-fn put_packet(l: Link, id: u64, p: Packet, body: &[u8], out: &mut [u8]) -> Written
-    ensures { λ r. ⌜ Puts l (contentOf (sharedSet l) id p (now (body .entry))) (now (out .entry)) r (now (out .exit)) ⌝ }
+// Writes a packet, whose parts lie in body, at the front of out; where the number is not 0, out stays as it is.
+pub fn write(l: Link, id: u64, p: Packet, body: &[u8], out: &mut [u8]) -> Written
+    ensures { λ r. ⌜ Writes l (contentOf (sharedSet l) id p (now (body .entry))) (now (out .entry)) r (now (out .exit)) ⌝ }
 {
     let caps = shared_set(l);
     let from = l.sender;
@@ -606,7 +489,7 @@ fn put_packet(l: Link, id: u64, p: Packet, body: &[u8], out: &mut [u8]) -> Writt
     let rows = part_of(body, rest);
     let n = rows.len();
     let kind = kind_of(slot);
-    let length = fields_size(slot, caps) + smaller(less(n, table), 65536);
+    let length = fields_size(slot, caps) + minimum(saturating_sub(n, table), 65536);
     let first = header_number(l, kind, length);
     if first != 0 {
         return Written {
@@ -628,12 +511,4 @@ fn put_packet(l: Link, id: u64, p: Packet, body: &[u8], out: &mut [u8]) -> Writt
     }
     lay_out(width, kind, id, head_of(caps, p), rows, out);
     Written { number: 0, size }
-}
-
-// Writes a packet, whose parts lie in body, at the front of out; where the number is not 0, out stays as it is.
-pub fn write(l: Link, id: u64, p: Packet, body: &[u8], out: &mut [u8]) -> Written
-    ensures { λ r. ⌜ Writes l (contentOf (sharedSet l) id p (now (body .entry))) (now (out .entry)) r (now (out .exit)) ⌝ }
-{
-    front_fits(shared_set(l), p);
-    put_packet(l, id, p, body, out)
 }

@@ -3,9 +3,11 @@
 -- Assumes nothing: these are definitions.
 use Prim.Native.Nat.{ℕ, _+_, _*_, _/_, _%_}
 use mathlib.Core.Bool.{Bool, true, false, cond}
-use lib.Dec.{eqb}
+use lib.Dec.{eqb, ltb}
 use Rattle.endpoint.specs.declared.Endpoint.{Endpoint}
 use Rattle.endpoint.specs.declared.Row.{Row}
+use Rattle.endpoint.specs.declared.EndpointOf.{EndpointOf}
+use Rattle.endpoint.specs.declared.EndpointOf.the-variants.{Of, Outside}
 use Rattle.endpoint.specs.declared.RowOf.{RowOf}
 use Rattle.endpoint.specs.declared.RowOf.the-variants.{At, Malformed}
 
@@ -21,6 +23,9 @@ isIn e = eqb (e .0 / 128) 1
 abbrev pub rowOf : Endpoint → RowOf
 rowOf e = cond (isAddress e) (At (record { 0 = e .0 % 16 + 16 * (e .0 / 128) })) Malformed
 
--- back from a row
-abbrev pub endpointOf : Row → Endpoint
-endpointOf r = record { 0 = r .0 % 16 + 128 * (r .0 / 16 % 2) }
+-- back from one of the 32 rows
+abbrev pub addressOf : Row → Endpoint
+addressOf r = record { 0 = r .0 % 16 + 128 * (r .0 / 16) }
+
+abbrev pub endpointOf : Row → EndpointOf
+endpointOf r = cond (ltb (r .0) 32) (Of (addressOf r)) Outside

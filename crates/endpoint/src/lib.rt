@@ -16,6 +16,12 @@ pub enum RowOf {
     Malformed,
 }
 
+// The endpoint of a row, if it is one of the 32.
+pub enum EndpointOf {
+    Of(Endpoint),
+    Outside,
+}
+
 // Bits 4 to 6 are zero.
 pub fn is_address(e: Endpoint) -> bool
     ensures { λ r. ⌜ r ≡ isAddress e ⌝ }
@@ -41,12 +47,16 @@ pub fn row_of(e: Endpoint) -> RowOf
     }
 }
 
-// The endpoint of a row; of a number past 31, that of its low five bits.
-pub fn endpoint_of(r: Row) -> Endpoint
+// The endpoint of a row, where its number is one of the 32.
+pub fn endpoint_of(r: Row) -> EndpointOf
     ensures { λ e. ⌜ e ≡ endpointOf r ⌝ }
 {
     let n = r.0;
-    Endpoint((n & 15) | (((n >> 4) & 1) << 7))
+    if n < 32 {
+        EndpointOf::Of(Endpoint((n & 15) | ((n >> 4) << 7)))
+    } else {
+        EndpointOf::Outside
+    }
 }
 
 // A mask holds a row by the bit of the row's number.

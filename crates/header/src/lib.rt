@@ -61,7 +61,7 @@ fn has_passed(h: Hello) -> bool
 }
 
 // The sender's own hello has passed.
-pub fn introduced(l: Link) -> bool
+pub fn own_hello_passed(l: Link) -> bool
     ensures { λ r. ⌜ r ≡ passed (Rattle.header.specs.Link.own l) ⌝ }
 {
     let sender = l.sender;
@@ -107,7 +107,7 @@ pub fn header_number(l: Link, kind: u32, length: usize) -> u8
     if 32768 < length {
         return 10;
     }
-    if introduced(l) {
+    if own_hello_passed(l) {
         if kind == 0 { 12 } else { 0 }
     } else {
         if kind == 0 { 0 } else { 11 }

@@ -31,7 +31,7 @@ octets-take (suc n) (x ∷ s) b zero = b 0
 octets-take (suc n) (x ∷ s) b (suc k) = octets-take n s (λ j. b (suc j)) k
 
 -- one number
-number-again : (w : ℕ) (s : List ℕ) → Octets s → w ≤ length s → bytesOf w (le w s 0) ++ drop w s ≡ s
+pub number-again : (w : ℕ) (s : List ℕ) → Octets s → w ≤ length s → bytesOf w (le w s 0) ++ drop w s ≡ s
 number-again zero s b h = refl
 number-again (suc w) [] b h = absurd (not-suc-le-zero h)
 number-again (suc w) (x ∷ s) b h =

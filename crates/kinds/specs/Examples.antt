@@ -7,16 +7,21 @@ use mathlib.Core.Option.{none, some}
 use Prim.Native.Nat.{ℕ}
 use Prim.Native.String.{String}
 use lib.ListN.{replicate, set}
+use lib.Dec.{leb}
 use lib.Text.{eqt}
 use Rattle.header.specs.declared.Side.{Side}
 use Rattle.header.specs.declared.Side.the-variants.{Guest, Host}
 use Rattle.header.specs.declared.Hello.the-variants.{Awaited, Passed}
+use Rattle.header.specs.declared.Link.{Link}
+use Rattle.number.specs.Bits.{hasBit}
+use Rattle.endpoint.specs.Endpoint.{rowOf}
+use Rattle.endpoint.specs.declared.RowOf.the-variants.{At, Malformed}
 use Rattle.header.specs.Link.{sharedSet, idWidth}
-use Rattle.kinds.specs.Table.{Field, Tail, nothing, words, string, payload, payload-onward, Kind, kinds, kindAt}
+use Rattle.kinds.specs.Table.{Bits, always, bit, bits, Field, Tail, nothing, words, string, payload, payload-onward, Kind, kinds, kindAt}
 use Rattle.kinds.specs.Content.{Value, one, Content, shared, size}
 use Rattle.header.specs.Header.{headerSize, headerBytes, headerNumber}
 use Rattle.kinds.specs.Number.{bad, kindNumber, wireNumber}
-use Rattle.kinds.specs.Codec.{layout, encode, packetNumber, writeNumber}
+use Rattle.kinds.specs.Codec.{layout, contentAt, decode, readNumber, encode, packetNumber, writeNumber}
 
 -- ---- sizes
 
@@ -31,15 +36,44 @@ bodyBytes connect table bulk =
 abbrev sizesUnder : ℕ → List ℕ
 sizesUnder caps = map (λ (k : Kind). size (shared caps) (k .fields)) kinds
 
--- no bit; bit 1; bit 4; bits 4 and 0; bit 6; bit 0 alone adds nothing
-pub sizes : (sizesUnder 0 ≡ bodyBytes 8 96 8)
-    × (sizesUnder 2 ≡ bodyBytes 10 96 8)
-    × (sizesUnder 16 ≡ bodyBytes 8 160 8)
-    × (sizesUnder 17 ≡ bodyBytes 8 288 8)
-    × (sizesUnder 64 ≡ bodyBytes 8 96 10)
-    × (sizesUnder 1 ≡ bodyBytes 8 96 8)
+-- "8; 10 with bit 1", "96; 160 with bit 4; 288 with bits 4 and 0", "8, or 10 with bit 6": under every shared set
+pub sizes : (caps : ℕ) → sizesUnder caps ≡ bodyBytes (cond (hasBit caps 1) 10 8) (cond (hasBit caps 4) (cond (hasBit caps 0) 288 160) 96) (cond (hasBit caps 6) 10 8)
 unfolding kinds
-sizes = (refl, refl, refl, refl, refl, refl)
+sizes caps = go (hasBit caps 1) refl (hasBit caps 4) refl (hasBit caps 0) refl (hasBit caps 6) refl
+  where
+    go : (a : Bool) → hasBit caps 1 ≡ a → (b : Bool) → hasBit caps 4 ≡ b → (c : Bool) → hasBit caps 0 ≡ c → (d : Bool) → hasBit caps 6 ≡ d
+        → sizesUnder caps ≡ bodyBytes (cond (hasBit caps 1) 10 8) (cond (hasBit caps 4) (cond (hasBit caps 0) 288 160) 96) (cond (hasBit caps 6) 10 8)
+    go true ea true eb true ec true ed = simp (ea, eb, ec, ed)
+    go true ea true eb true ec false ed = simp (ea, eb, ec, ed)
+    go true ea true eb false ec true ed = simp (ea, eb, ec, ed)
+    go true ea true eb false ec false ed = simp (ea, eb, ec, ed)
+    go true ea false eb c ec true ed = simp (ea, eb, ed)
+    go true ea false eb c ec false ed = simp (ea, eb, ed)
+    go false ea true eb true ec true ed = simp (ea, eb, ec, ed)
+    go false ea true eb true ec false ed = simp (ea, eb, ec, ed)
+    go false ea true eb false ec true ed = simp (ea, eb, ec, ed)
+    go false ea true eb false ec false ed = simp (ea, eb, ec, ed)
+    go false ea false eb c ec true ed = simp (ea, eb, ed)
+    go false ea false eb c ec false ed = simp (ea, eb, ed)
+
+-- ---- bits: "Other bits and words are ignored": the table asks for bits 0 to 7 alone
+
+abbrev low : Bits → Bool
+low always = true
+low (bit j) = leb j 7
+low (bits j k) = leb j 7 && leb k 7
+
+abbrev lowFields : List Field → Bool
+lowFields [] = true
+lowFields (f ∷ fs) = low (f .there) && lowFields fs
+
+abbrev lowKinds : List Kind → Bool
+lowKinds [] = true
+lowKinds (k ∷ ks) = low (k .needs) && lowFields (k .fields) && lowKinds ks
+
+pub low-bits : lowKinds kinds ≡ true
+unfolding kinds
+low-bits = refl
 
 -- ---- names
 
@@ -175,3 +209,23 @@ pub writer : (writing Guest 0 12 (packet 7 7 [] []) ≡ 0)
     × (writing Guest 0 0 (bulk 0 none (replicate 32761 0)) ≡ 10)
 unfolding sharedSet idWidth headerSize headerBytes headerNumber layout encode packetNumber writeNumber wireNumber kindNumber bad kinds
 writer = (refl, refl, refl, refl, refl, refl, refl, refl, refl, refl, refl)
+
+-- ---- marked examples, as far as one packet decides them: the bytes, and their number when they are read
+
+abbrev link : Side → ℕ → Link
+link from caps = record { sender = from; guest = Passed caps; host = Passed caps }
+
+-- the bytes of a packet, and the number of these bytes
+abbrev there-and-back : Side → ℕ → Content → List ℕ → Type 0
+there-and-back from caps p b = (encode (link from caps) p ≡ b) × (readNumber (link from caps) b ≡ 0)
+
+pub marked : there-and-back Guest 0 (packet 7 7 [] []) (7 ∷ 0 ∷ 0 ∷ 0 ∷ 0 ∷ 0 ∷ 0 ∷ 0 ∷ 7 ∷ 0 ∷ 0 ∷ 0 ∷ [])  -- M1
+    × there-and-back Guest 32 (packet 7 7 [] []) (7 ∷ 0 ∷ 0 ∷ 0 ∷ 0 ∷ 0 ∷ 0 ∷ 0 ∷ 7 ∷ 0 ∷ 0 ∷ 0 ∷ 0 ∷ 0 ∷ 0 ∷ 0 ∷ [])  -- M2
+    × there-and-back Guest 0 (bulk 0 none (170 ∷ 187 ∷ [])) (101 ∷ 0 ∷ 0 ∷ 0 ∷ 10 ∷ 0 ∷ 0 ∷ 0 ∷ 9 ∷ 0 ∷ 0 ∷ 0 ∷ 2 ∷ 0 ∷ 2 ∷ 0 ∷ 0 ∷ 0 ∷ 0 ∷ 0 ∷ 170 ∷ 187 ∷ [])  -- M3
+    × there-and-back Host 0 (bulk 0 none []) (101 ∷ 0 ∷ 0 ∷ 0 ∷ 8 ∷ 0 ∷ 0 ∷ 0 ∷ 9 ∷ 0 ∷ 0 ∷ 0 ∷ 2 ∷ 0 ∷ 2 ∷ 0 ∷ 0 ∷ 0 ∷ 0 ∷ 0 ∷ [])  -- M4
+    × (headerNumber (link Guest 0) 101 32768 ≡ 0)  -- M6
+    × (headerNumber (link Guest 0) 101 32769 ≡ 10)  -- M7
+    × (rowOf (record { 0 = 130 }) ≡ At (record { 0 = 18 }))  -- M8
+    × (rowOf (record { 0 = 18 }) ≡ Malformed)  -- M9
+unfolding sharedSet idWidth headerSize headerBytes headerNumber layout encode decode contentAt readNumber wireNumber kindNumber bad kinds
+marked = ((refl, refl), (refl, refl), (refl, refl), (refl, refl), refl, refl, refl, refl)

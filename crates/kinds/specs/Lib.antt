@@ -7,3 +7,4 @@ pub mod RoundTrip
 pub mod Examples
 pub mod Slots
 pub mod Again
+pub mod Reread

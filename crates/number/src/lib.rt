@@ -8,7 +8,7 @@ ghost use lib.Seq.{sets, slice};
 ghost use Rattle.number.specs.Little.{le, bytesOf};
 ghost use Rattle.number.specs.Bits.{hasBit};
 
-pub fn smaller(a: usize, b: usize) -> usize
+pub fn minimum(a: usize, b: usize) -> usize
     ensures { λ r. ⌜ r ≡ min a b ⌝ }
 {
     if a <= b { a } else { b }
@@ -30,7 +30,7 @@ fn byte_after(s: &[u8], at: usize, i: usize) -> u8
 pub fn get(s: &[u8], at: usize, n: usize) -> u64
     ensures { λ r. ⌜ (r ≡ le (min n 8) (now (s .entry)) at) × (r < 256 ^ min n 8) ⌝ }
 {
-    let mut i = smaller(n, 8);
+    let mut i = minimum(n, 8);
     let mut x: u64 = 0;
     while 0 < i {
         i -= 1;
@@ -107,7 +107,7 @@ pub fn choose(b: bool, x: usize, y: usize) -> usize
 }
 
 // a - b, and 0 where b is more.
-pub fn less(a: usize, b: usize) -> usize
+pub fn saturating_sub(a: usize, b: usize) -> usize
     ensures { λ r. ⌜ r ≡ a - b ⌝ }
 {
     if b <= a { a - b } else { 0 }
@@ -117,7 +117,7 @@ pub fn less(a: usize, b: usize) -> usize
 pub fn part(s: &[u8], a: usize, e: usize) -> &[u8]
     ensures { λ r. ⌜ now r ≡ slice a e (now (s .entry)) ⌝ }
 {
-    let end = smaller(e, s.len());
-    let start = smaller(a, end);
+    let end = minimum(e, s.len());
+    let start = minimum(a, end);
     &s[start..end]
 }

@@ -4,12 +4,6 @@
 ghost use mathlib.Core.Path.{_≡_};
 ghost use Rattle.packet.specs.Packet.{inPart};
 use endpoint::Endpoint;
-use endpoint::Row;
-use number::get;
-use number::get8;
-use number::get16;
-use number::get32;
-use number::less;
 use number::part;
 
 // Bytes of the body from start up to end.
@@ -18,15 +12,10 @@ pub struct Part {
     pub end: usize,
 }
 
-// Fields that are there only where their capability is shared.
+// A field that is there only where its capability is shared.
 pub enum Optional16 {
     Absent,
     Present(u16),
-}
-
-pub enum Optional32 {
-    Absent,
-    Present(u32),
 }
 
 pub enum Packet {
@@ -164,23 +153,6 @@ pub enum Packet {
         status: u8,
         data: Part,
     },
-}
-
-// One of the 32 interfaces of an interface table.
-pub struct InterfaceRow {
-    pub number: u8,
-    pub class: u8,
-    pub subclass: u8,
-    pub protocol: u8,
-}
-
-// One of the 32 rows of an endpoint table.
-pub struct EndpointRow {
-    pub kind: u8,
-    pub interval: u8,
-    pub interface: u8,
-    pub max_packet: Optional16,
-    pub max_streams: Optional32,
 }
 
 // The bytes that a part names, as far as the body has them.

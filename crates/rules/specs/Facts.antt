@@ -1,4 +1,4 @@
--- What the code finds out of a packet before it gives the number: each fact is the table's, for the packet's content.
+-- What the code finds out of a packet before it gives the number, and that each fact is the table's, for the packet's content.
 -- Assumes nothing: these are definitions.
 use Prim.Native.Nat.{ℕ, zero, suc, _+_, _/_, _%_, _≤_, _<_}
 use mathlib.Core.Path.{_≡_}
@@ -11,13 +11,14 @@ use Rattle.number.specs.Little.{le}
 use Rattle.number.specs.Bits.{hasBit}
 use Rattle.endpoint.specs.declared.Endpoint.{Endpoint}
 use Rattle.header.specs.declared.Side.{Side}
-use Rattle.kinds.specs.Table.{Kind, kindAt}
-use Rattle.kinds.specs.Content.{Content, shared, size, bytes}
+use Rattle.kinds.specs.Table.{kindAt}
+use Rattle.kinds.specs.Content.{size, bytes}
 use Rattle.kinds.specs.Number.{isGuest, onward, addressOk, zeroAt, surplus, complete, tailOk, bad}
 use Rattle.packet.specs.declared.Part.{Part}
 use Rattle.packet.specs.declared.Optional16.{Optional16}
 use Rattle.packet.specs.declared.Optional16.the-variants.{Absent, Present}
 use Rattle.packet.specs.declared.Packet.{Packet}
+use Rattle.packet.specs.declared.Packet.the-variants.{Hello, Connect, Disconnect, Reset, InterfaceTable, EndpointTable, SetConfiguration, GetConfiguration, ConfigurationStatus, SetAlt, GetAlt, AltStatus, StartIso, StopIso, IsoStatus, StartInterrupt, StopInterrupt, InterruptStatus, AllocStreams, FreeStreams, StreamsStatus, Cancel, FilterReject, Filter, DisconnectAck, StartBulkReceiving, StopBulkReceiving, BulkReceivingStatus, Control, Bulk, Iso, Interrupt, BufferedBulk}
 use Rattle.packet.specs.Packet.{shownOf, inPart, contentOf}
 use Rattle.rules.specs.declared.Facts.{Facts}
 
@@ -37,20 +38,7 @@ placeOf (some a) = a
 abbrev pub mayFollow : ℕ → ℕ → ℕ → Bool
 mayFollow slot payload n = cond (eqb slot 0) (leb n 32 && eqb (n % 4) 0) (cond (eqb slot 23) (leb 1 n) (eqb n payload))
 
-pub record Shows (from : Side) (caps id : ℕ) (p : Packet) (body : List ℕ) (f : Facts) : Type 0 where
-  pub small : f .slot < 33
-  pub kind : kindAt (f .slot) .number ≡ shownOf caps p .kind
-  pub head : f .head ≡ length (bytes (kindAt (f .slot) .fields) (shownOf caps p .front))
-  pub short : f .head ≤ 10
-  pub rest : f .rest ≡ shownOf caps p .part
-  pub table : f .table ≡ size (shownOf caps p .columns) (drop (length (shownOf caps p .front)) (kindAt (f .slot) .fields))
-  pub few : f .table ≤ 288
-  pub complete : complete (kindAt (f .slot) .fields) (contentOf caps id p body .fields) ≡ leb (f .table) (length (inPart (f .rest) body))
-  pub tail : (n : ℕ) → tailOk (kindAt (f .slot) .tail) from (kindAt (f .slot) .fields) (contentOf caps id p body .fields) n ≡ mayFollow (f .slot) (f .payload) n
-  pub surplus : surplus caps (kindAt (f .slot) .fields) (contentOf caps id p body .fields) ≡ f .surplus
-  pub bad : leb (f .table) (length (inPart (f .rest) body)) ≡ true → placeOf (bad from caps (kindAt (f .slot)) (contentOf caps id p body)) ≡ f .bad
-
--- ---- the same facts as the code computes them, for the kinds that do not go by one line
+-- ---- the facts as the code finds them, kind by kind
 
 abbrev pub noId : ℕ → ℕ
 noId id = cond (eqb id 0) 65536 65535
@@ -107,3 +95,55 @@ interruptFacts from e status n rest =
 abbrev pub bufferedFacts : Side → ℕ → Endpoint → ℕ → Part → Facts
 bufferedFacts from n e status rest =
     factsOf 32 10 rest 0 n false (cond (addressOk (e .0) && eqb (e .0 / 128) 1) (cond (statusOk from status) 65536 9) 8)
+
+abbrev pub factsFor : Side → ℕ → ℕ → Packet → List ℕ → Facts
+factsFor from caps id (Hello part) body = helloFacts id part body
+factsFor from caps id (Connect speed class subclass protocol vendor product version) body = connectFacts id caps speed version
+factsFor from caps id Disconnect body = factsOf 2 0 (record { start = 0; end = 0 }) 0 0 false (noId id)
+factsFor from caps id Reset body = factsOf 3 0 (record { start = 0; end = 0 }) 0 0 false 65536
+factsFor from caps id (InterfaceTable count part) body = factsOf 4 4 part 128 0 false (cond (leb count 32) (noId id) 0)
+factsFor from caps id (EndpointTable part packets streams) body = endpointFacts id caps part packets streams body
+factsFor from caps id (SetConfiguration configuration) body = factsOf 6 1 (record { start = 0; end = 0 }) 0 0 false 65536
+factsFor from caps id GetConfiguration body = factsOf 7 0 (record { start = 0; end = 0 }) 0 0 false 65536
+factsFor from caps id (ConfigurationStatus status configuration) body = factsOf 8 2 (record { start = 0; end = 0 }) 0 0 false (cond (statusOk from status) 65536 0)
+factsFor from caps id (SetAlt interface alt) body = factsOf 9 2 (record { start = 0; end = 0 }) 0 0 false 65536
+factsFor from caps id (GetAlt interface) body = factsOf 10 1 (record { start = 0; end = 0 }) 0 0 false 65536
+factsFor from caps id (AltStatus status interface alt) body = factsOf 11 3 (record { start = 0; end = 0 }) 0 0 false (cond (statusOk from status) 65536 0)
+factsFor from caps id (StartIso e packets urbs) body = factsOf 12 3 (record { start = 0; end = 0 }) 0 0 false (cond (addressOk (e .0)) 65536 0)
+factsFor from caps id (StopIso e) body = factsOf 13 1 (record { start = 0; end = 0 }) 0 0 false (cond (addressOk (e .0)) 65536 0)
+factsFor from caps id (IsoStatus status e) body = factsOf 14 2 (record { start = 0; end = 0 }) 0 0 false (cond (statusOk from status) (cond (addressOk (e .0)) 65536 1) 0)
+factsFor from caps id (StartInterrupt e) body = factsOf 15 1 (record { start = 0; end = 0 }) 0 0 false (cond (addressOk (e .0) && eqb (e .0 / 128) 1) 65536 0)
+factsFor from caps id (StopInterrupt e) body = factsOf 16 1 (record { start = 0; end = 0 }) 0 0 false (cond (addressOk (e .0) && eqb (e .0 / 128) 1) 65536 0)
+factsFor from caps id (InterruptStatus status e) body = factsOf 17 2 (record { start = 0; end = 0 }) 0 0 false (cond (statusOk from status) (cond (addressOk (e .0)) 65536 1) 0)
+factsFor from caps id (AllocStreams mask count) body = factsOf 18 8 (record { start = 0; end = 0 }) 0 0 false (cond (not (eqb mask 0)) 65536 0)
+factsFor from caps id (FreeStreams mask) body = factsOf 19 4 (record { start = 0; end = 0 }) 0 0 false (cond (not (eqb mask 0)) 65536 0)
+factsFor from caps id (StreamsStatus mask count status) body = factsOf 20 9 (record { start = 0; end = 0 }) 0 0 false (cond (statusOk from status) 65536 8)
+factsFor from caps id Cancel body = factsOf 21 0 (record { start = 0; end = 0 }) 0 0 false 65536
+factsFor from caps id FilterReject body = factsOf 22 0 (record { start = 0; end = 0 }) 0 0 false (noId id)
+factsFor from caps id (Filter part) body = filterFacts id part body
+factsFor from caps id DisconnectAck body = factsOf 24 0 (record { start = 0; end = 0 }) 0 0 false (noId id)
+factsFor from caps id (StartBulkReceiving stream bytes e transfers) body = factsOf 25 10 (record { start = 0; end = 0 }) 0 0 false (cond (addressOk (e .0) && eqb (e .0 / 128) 1) 65536 8)
+factsFor from caps id (StopBulkReceiving stream e) body = factsOf 26 5 (record { start = 0; end = 0 }) 0 0 false (cond (addressOk (e .0) && eqb (e .0 / 128) 1) 65536 4)
+factsFor from caps id (BulkReceivingStatus stream e status) body = factsOf 27 6 (record { start = 0; end = 0 }) 0 0 false (cond (addressOk (e .0) && eqb (e .0 / 128) 1) (cond (statusOk from status) 65536 5) 4)
+factsFor from caps id (Control e request requesttype status value index n part) body = controlFacts from e requesttype status n part
+factsFor from caps id (Bulk e status n stream part) body = bulkFacts from caps e status n stream part
+factsFor from caps id (Iso e status n part) body = isoFacts from e status n part
+factsFor from caps id (Interrupt e status n part) body = interruptFacts from e status n part
+factsFor from caps id (BufferedBulk stream n e status part) body = bufferedFacts from n e status part
+
+-- ---- and what they say of the packet's content: the facts of the table
+
+pub record Shows (from : Side) (caps id : ℕ) (p : Packet) (body : List ℕ) (f : Facts) : Type 0 where
+  pub exact : f ≡ factsFor from caps id p body
+  pub small : f .slot < 33
+  pub kind : kindAt (f .slot) .number ≡ shownOf caps p .kind
+  pub head : f .head ≡ length (bytes (kindAt (f .slot) .fields) (shownOf caps p .front))
+  pub short : f .head ≤ 10
+  pub rest : f .rest ≡ shownOf caps p .part
+  pub table : f .table ≡ size (shownOf caps p .columns) (drop (length (shownOf caps p .front)) (kindAt (f .slot) .fields))
+  pub few : f .table ≤ 288
+  pub complete : complete (kindAt (f .slot) .fields) (contentOf caps id p body .fields) ≡ leb (f .table) (length (inPart (f .rest) body))
+  pub tail : (n : ℕ) → tailOk (kindAt (f .slot) .tail) from (kindAt (f .slot) .fields) (contentOf caps id p body .fields) n ≡ mayFollow (f .slot) (f .payload) n
+  pub surplus : surplus caps (kindAt (f .slot) .fields) (contentOf caps id p body .fields) ≡ f .surplus
+  -- where the table is cut short 23 comes first, so the rule speaks of a whole one
+  pub bad : leb (f .table) (length (inPart (f .rest) body)) ≡ true → placeOf (bad from caps (kindAt (f .slot)) (contentOf caps id p body)) ≡ f .bad

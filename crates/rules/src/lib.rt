@@ -23,7 +23,7 @@ use number::choose;
 use number::get8;
 use number::get32;
 use number::has_bit;
-use number::less;
+use number::saturating_sub;
 use packet::Optional16;
 use packet::Packet;
 use packet::Part;
@@ -493,25 +493,25 @@ fn offers_streams_alone(slot: usize, rows: &[u8], at: usize) -> bool
 }
 
 // The first of 21 to 24 that holds, then 13.
-pub fn in_order(sender: bool, shared: bool, sized: bool, field: bool, streams: bool) -> u8
-    ensures { λ r. ⌜ r ≡ inOrder sender shared sized field streams ⌝ }
+pub fn in_order(missent: bool, unshared: bool, missized: bool, broken: bool, alone: bool) -> u8
+    ensures { λ r. ⌜ r ≡ inOrder missent unshared missized broken alone ⌝ }
 {
-    if sender {
+    if missent {
         return 21;
     }
-    if shared {
+    if unshared {
         return 22;
     }
-    if sized {
+    if missized {
         return 23;
     }
-    if field {
+    if broken {
         return 24;
     }
-    if streams { 13 } else { 0 }
+    if alone { 13 } else { 0 }
 }
 
-// The wire checks from 20 up, of a packet with its body: reader and writer alike.
+// The wire checks 21 to 24 and 13 of a packet with its body, for reader and writer alike; a `Packet` is of a known kind, so 20 is not among them.
 pub fn wire_number(l: Link, id: u64, p: Packet, body: &[u8]) -> u8
     ensures { λ r. ⌜ r ≡ wireNumber l (contentOf (sharedSet l) id p (now (body .entry))) ⌝ }
 {
@@ -523,7 +523,7 @@ pub fn wire_number(l: Link, id: u64, p: Packet, body: &[u8]) -> u8
     let rest = f.rest;
     let rows = part_of(body, rest);
     let n = rows.len();
-    let sized = (table <= n) & may_follow(slot, f.payload, less(n, table));
+    let sized = (table <= n) & may_follow(slot, f.payload, saturating_sub(n, table));
     in_order(
         !may_send(slot, from),
         !is_shared(slot, caps) | f.surplus | is_wide(slot, caps, id),

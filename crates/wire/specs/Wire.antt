@@ -14,7 +14,7 @@ use Rattle.kinds.specs.Content.{Content}
 use Rattle.kinds.specs.Codec.{decode, encode, readNumber, Accepted}
 use Rattle.kinds.specs.RoundTrip.{RoundTrip, round-trip}
 use Rattle.roundtrip.specs.Wire.{Wire, Good, WireLaws}
-use Rattle.roundtrip.specs.Prefix.{same, not-begun}
+use Rattle.roundtrip.specs.Prefix.{allBytes, AllAccepted, same, not-begun, begins, apart}
 
 -- packets of one direction under one pair of hellos
 abbrev pub usbredir : Wire
@@ -66,3 +66,12 @@ same-bytes l = same usbredir laws l
 -- no accepted packet's bytes begin another's
 pub no-prefix : (l : Link) (p q : Content) (s : List ℕ) → Accepted l p → Accepted l q → encode l p ++ s ≡ encode l q → (p ≡ q) × (s ≡ [])
 no-prefix l = not-begun usbredir laws l
+
+-- two lists of accepted packets that give the same bytes are the same
+pub same-lists : (l : Link) (ps qs : List Content) → AllAccepted usbredir l ps → AllAccepted usbredir l qs → allBytes usbredir l ps ≡ allBytes usbredir l qs → ps ≡ qs
+same-lists l = apart usbredir laws l
+
+-- and one's bytes begin the other's only if its list does
+pub list-begins : (l : Link) (ps qs : List Content) (rest : List ℕ) → AllAccepted usbredir l ps → AllAccepted usbredir l qs → allBytes usbredir l ps ≡ allBytes usbredir l qs ++ rest
+    → (more : List Content) × (ps ≡ qs ++ more)
+list-begins l = begins usbredir laws l

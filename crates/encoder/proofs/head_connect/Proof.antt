@@ -1,5 +1,6 @@
--- `encoder::head_connect` meets its contract: the version's bytes are there where it is.
+-- `encoder::head_connect` meets its contract: the version's bytes are there where it is, and it is a u16.
 -- Assumes nothing.
+use native.Mathlib.Omega.{arith}
 use borrow.Author.Needs.{needs}
 use Rattle.encoder.proofs.head_connect.Statement.{statement}
 use Rattle.encoder.proofs.head_connect.Tie as tie
@@ -17,10 +18,10 @@ head-bbbbwww-requires : tie.Need-head-bbbbwww-requires
 head-bbbbwww-requires c κs = search needs
 
 returns : tie.Need-returns
-returns c = rw (c .before .enum-told .given .1) (c .head-bbbbww .ensures)
+returns c = rw (c .before .enum-told .given .1) (c .head-bbbbww .ensures, tt)
 
 returns-2 : tie.Need-returns-2
-returns-2 c = rw (c .before .before .x6 .given .1) (c .head-bbbbwww .ensures)
+returns-2 c = rw (c .before .before .x6 .given .1) (c .head-bbbbwww .ensures, omega arith)
 
 pub head-connect-spec : {M : Type 1} → statement M
 head-connect-spec =

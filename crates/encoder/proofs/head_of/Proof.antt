@@ -2,6 +2,12 @@
 -- Assumes nothing.
 use Rattle.kinds.specs.Table.{kinds}
 use Rattle.kinds.specs.Codec.{layout}
+use Prim.Native.Nat.{ℕ}
+use mathlib.Core.Bool.{Bool, _||_}
+use native.Mathlib.Omega.{arith}
+use lib.Dec.{ltb}
+use Rattle.number.specs.Bits.{hasBit}
+use Rattle.encoder.proofs.Last as last
 use borrow.Author.Needs.{needs}
 use Rattle.encoder.proofs.head_of.Statement.{statement}
 use Rattle.encoder.proofs.head_of.Tie as tie
@@ -206,135 +212,145 @@ head-ddbb-requires-2 c κs = search needs
 
 returns : tie.Need-returns
 unfolding kinds layout
-returns c = rw (c .before .enum-told .given .1) (c .head-none .ensures)
+returns c = record { holds = rw (c .before .enum-told .given .1) (c .head-none .ensures); fits = rw (c .before .enum-told .given .1) tt }
 
 returns-2 : tie.Need-returns-2
 unfolding kinds layout
-returns-2 c = rw (c .before .before .p .given .1) (c .head-connect .ensures)
+returns-2 c =
+    record {
+      holds = rw (c .before .before .p .given .1) (c .head-connect .ensures .0);
+      fits = rw (c .before .before .p .given .1) ((omega arith, tt), ((omega arith, tt), ((omega arith, tt), ((omega arith, tt), ((omega arith, tt), ((omega arith, tt), last.version-fits (c .before .before .p .given .0 .1 .1 .1 .1 .1 .1 .0) (c .head-connect .ensures .1)))))));
+    }
 
 returns-3 : tie.Need-returns-3
 unfolding kinds layout
-returns-3 c = rw (c .before .enum-told2 .given .1) (c .head-none2 .ensures)
+returns-3 c = record { holds = rw (c .before .enum-told2 .given .1) (c .head-none2 .ensures); fits = rw (c .before .enum-told2 .given .1) tt }
 
 returns-4 : tie.Need-returns-4
 unfolding kinds layout
-returns-4 c = rw (c .before .enum-told3 .given .1) (c .head-none3 .ensures)
+returns-4 c = record { holds = rw (c .before .enum-told3 .given .1) (c .head-none3 .ensures); fits = rw (c .before .enum-told3 .given .1) tt }
 
 returns-5 : tie.Need-returns-5
 unfolding kinds layout
-returns-5 c = rw (c .before .before .p2 .given .1) (c .head-d .ensures)
+returns-5 c = record { holds = rw (c .before .before .p2 .given .1) (c .head-d .ensures); fits = rw (c .before .before .p2 .given .1) (omega arith) }
 
 returns-6 : tie.Need-returns-6
 unfolding kinds layout
-returns-6 c = rw (c .before .enum-told4 .given .1) (c .head-none4 .ensures)
+returns-6 c = record { holds = rw (c .before .enum-told4 .given .1) (c .head-none4 .ensures); fits = rw (c .before .enum-told4 .given .1) tt }
 
 returns-7 : tie.Need-returns-7
 unfolding kinds layout
-returns-7 c = rw (c .before .before .p3 .given .1) (c .head-b .ensures)
+returns-7 c = record { holds = rw (c .before .before .p3 .given .1) (c .head-b .ensures); fits = rw (c .before .before .p3 .given .1) (omega arith) }
 
 returns-8 : tie.Need-returns-8
 unfolding kinds layout
-returns-8 c = rw (c .before .enum-told5 .given .1) (c .head-none5 .ensures)
+returns-8 c = record { holds = rw (c .before .enum-told5 .given .1) (c .head-none5 .ensures); fits = rw (c .before .enum-told5 .given .1) tt }
 
 returns-9 : tie.Need-returns-9
 unfolding kinds layout
-returns-9 c = rw (c .before .before .p4 .given .1) (c .head-bb .ensures)
+returns-9 c = record { holds = rw (c .before .before .p4 .given .1) (c .head-bb .ensures); fits = rw (c .before .before .p4 .given .1) (omega arith) }
 
 returns-10 : tie.Need-returns-10
 unfolding kinds layout
-returns-10 c = rw (c .before .before .p5 .given .1) (c .head-bb2 .ensures)
+returns-10 c = record { holds = rw (c .before .before .p5 .given .1) (c .head-bb2 .ensures); fits = rw (c .before .before .p5 .given .1) (omega arith) }
 
 returns-11 : tie.Need-returns-11
 unfolding kinds layout
-returns-11 c = rw (c .before .before .p6 .given .1) (c .head-b2 .ensures)
+returns-11 c = record { holds = rw (c .before .before .p6 .given .1) (c .head-b2 .ensures); fits = rw (c .before .before .p6 .given .1) (omega arith) }
 
 returns-12 : tie.Need-returns-12
 unfolding kinds layout
-returns-12 c = rw (c .before .before .p7 .given .1) (c .head-bbb .ensures)
+returns-12 c = record { holds = rw (c .before .before .p7 .given .1) (c .head-bbb .ensures); fits = rw (c .before .before .p7 .given .1) (omega arith) }
 
 returns-13 : tie.Need-returns-13
 unfolding kinds layout
-returns-13 c = rw (c .before .before .p8 .given .1) (c .head-bbb2 .ensures)
+returns-13 c = record { holds = rw (c .before .before .p8 .given .1) (c .head-bbb2 .ensures); fits = rw (c .before .before .p8 .given .1) (omega arith) }
 
 returns-14 : tie.Need-returns-14
 unfolding kinds layout
-returns-14 c = rw (c .before .before .p9 .given .1) (c .head-b3 .ensures)
+returns-14 c = record { holds = rw (c .before .before .p9 .given .1) (c .head-b3 .ensures); fits = rw (c .before .before .p9 .given .1) (omega arith) }
 
 returns-15 : tie.Need-returns-15
 unfolding kinds layout
-returns-15 c = rw (c .before .before .p10 .given .1) (c .head-bb3 .ensures)
+returns-15 c = record { holds = rw (c .before .before .p10 .given .1) (c .head-bb3 .ensures); fits = rw (c .before .before .p10 .given .1) (omega arith) }
 
 returns-16 : tie.Need-returns-16
 unfolding kinds layout
-returns-16 c = rw (c .before .before .p11 .given .1) (c .head-b4 .ensures)
+returns-16 c = record { holds = rw (c .before .before .p11 .given .1) (c .head-b4 .ensures); fits = rw (c .before .before .p11 .given .1) (omega arith) }
 
 returns-17 : tie.Need-returns-17
 unfolding kinds layout
-returns-17 c = rw (c .before .before .p12 .given .1) (c .head-b5 .ensures)
+returns-17 c = record { holds = rw (c .before .before .p12 .given .1) (c .head-b5 .ensures); fits = rw (c .before .before .p12 .given .1) (omega arith) }
 
 returns-18 : tie.Need-returns-18
 unfolding kinds layout
-returns-18 c = rw (c .before .before .p13 .given .1) (c .head-bb4 .ensures)
+returns-18 c = record { holds = rw (c .before .before .p13 .given .1) (c .head-bb4 .ensures); fits = rw (c .before .before .p13 .given .1) (omega arith) }
 
 returns-19 : tie.Need-returns-19
 unfolding kinds layout
-returns-19 c = rw (c .before .before .p14 .given .1) (c .head-dd .ensures)
+returns-19 c = record { holds = rw (c .before .before .p14 .given .1) (c .head-dd .ensures); fits = rw (c .before .before .p14 .given .1) (omega arith) }
 
 returns-20 : tie.Need-returns-20
 unfolding kinds layout
-returns-20 c = rw (c .before .before .p15 .given .1) (c .head-d2 .ensures)
+returns-20 c = record { holds = rw (c .before .before .p15 .given .1) (c .head-d2 .ensures); fits = rw (c .before .before .p15 .given .1) (omega arith) }
 
 returns-21 : tie.Need-returns-21
 unfolding kinds layout
-returns-21 c = rw (c .before .before .p16 .given .1) (c .head-ddb .ensures)
+returns-21 c = record { holds = rw (c .before .before .p16 .given .1) (c .head-ddb .ensures); fits = rw (c .before .before .p16 .given .1) (omega arith) }
 
 returns-22 : tie.Need-returns-22
 unfolding kinds layout
-returns-22 c = rw (c .before .enum-told6 .given .1) (c .head-none6 .ensures)
+returns-22 c = record { holds = rw (c .before .enum-told6 .given .1) (c .head-none6 .ensures); fits = rw (c .before .enum-told6 .given .1) tt }
 
 returns-23 : tie.Need-returns-23
 unfolding kinds layout
-returns-23 c = rw (c .before .enum-told7 .given .1) (c .head-none7 .ensures)
+returns-23 c = record { holds = rw (c .before .enum-told7 .given .1) (c .head-none7 .ensures); fits = rw (c .before .enum-told7 .given .1) tt }
 
 returns-24 : tie.Need-returns-24
 unfolding kinds layout
-returns-24 c = rw (c .before .enum-told8 .given .1) (c .head-none8 .ensures)
+returns-24 c = record { holds = rw (c .before .enum-told8 .given .1) (c .head-none8 .ensures); fits = rw (c .before .enum-told8 .given .1) tt }
 
 returns-25 : tie.Need-returns-25
 unfolding kinds layout
-returns-25 c = rw (c .before .enum-told9 .given .1) (c .head-none9 .ensures)
+returns-25 c = record { holds = rw (c .before .enum-told9 .given .1) (c .head-none9 .ensures); fits = rw (c .before .enum-told9 .given .1) tt }
 
 returns-26 : tie.Need-returns-26
 unfolding kinds layout
-returns-26 c = rw (c .before .before .p17 .given .1) (c .head-ddbb .ensures)
+returns-26 c = record { holds = rw (c .before .before .p17 .given .1) (c .head-ddbb .ensures); fits = rw (c .before .before .p17 .given .1) (omega arith) }
 
 returns-27 : tie.Need-returns-27
 unfolding kinds layout
-returns-27 c = rw (c .before .before .p18 .given .1) (c .head-db .ensures)
+returns-27 c = record { holds = rw (c .before .before .p18 .given .1) (c .head-db .ensures); fits = rw (c .before .before .p18 .given .1) (omega arith) }
 
 returns-28 : tie.Need-returns-28
 unfolding kinds layout
-returns-28 c = rw (c .before .before .p19 .given .1) (c .head-dbb .ensures)
+returns-28 c = record { holds = rw (c .before .before .p19 .given .1) (c .head-dbb .ensures); fits = rw (c .before .before .p19 .given .1) (omega arith) }
 
 returns-29 : tie.Need-returns-29
 unfolding kinds layout
-returns-29 c = rw (c .before .before .p20 .given .1) (c .head-bbbbwww .ensures)
+returns-29 c = record { holds = rw (c .before .before .p20 .given .1) (c .head-bbbbwww .ensures); fits = rw (c .before .before .p20 .given .1) (omega arith) }
 
 returns-30 : tie.Need-returns-30
 unfolding kinds layout
-returns-30 c = rw (c .before .before .p21 .given .1) (c .head-bulk .ensures)
+returns-30 c =
+    let n : ℕ = c .before .before .p21 .given .0 .1 .1 .0 in
+    let b : Bool = hasBit (c .before .before .before .before .args .caps) 6 || ltb 65535 n in
+    record {
+      holds = rw (c .before .before .p21 .given .1) (c .head-bulk .ensures);
+      fits = rw (c .before .before .p21 .given .1) ((omega arith, tt), ((omega arith, tt), ((omega arith, tt), ((omega arith, tt), last.high-fits b n (omega arith)))));
+    }
 
 returns-31 : tie.Need-returns-31
 unfolding kinds layout
-returns-31 c = rw (c .before .before .p22 .given .1) (c .head-bbw .ensures)
+returns-31 c = record { holds = rw (c .before .before .p22 .given .1) (c .head-bbw .ensures); fits = rw (c .before .before .p22 .given .1) (omega arith) }
 
 returns-32 : tie.Need-returns-32
 unfolding kinds layout
-returns-32 c = rw (c .before .before .p23 .given .1) (c .head-bbw2 .ensures)
+returns-32 c = record { holds = rw (c .before .before .p23 .given .1) (c .head-bbw2 .ensures); fits = rw (c .before .before .p23 .given .1) (omega arith) }
 
 returns-33 : tie.Need-returns-33
 unfolding kinds layout
-returns-33 c = rw (c .before .before .p24 .given .1) (c .head-ddbb2 .ensures)
+returns-33 c = record { holds = rw (c .before .before .p24 .given .1) (c .head-ddbb2 .ensures); fits = rw (c .before .before .p24 .given .1) (omega arith) }
 
 pub head-of-spec : {M : Type 1} → statement M
 head-of-spec =

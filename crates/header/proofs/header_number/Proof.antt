@@ -11,33 +11,33 @@ returns : tie.Need-returns
 unfolding headerNumber
 returns c = rw (lt-ltb 32768 (c .before .args .length) (omega arith))
 
-introduced-requires : tie.Need-introduced-requires
-introduced-requires c κs = search needs
+own-hello-passed-requires : tie.Need-own-hello-passed-requires
+own-hello-passed-requires c κs = search needs
 
 returns-2 : tie.Need-returns-2
 unfolding headerNumber
 returns-2 c =
     let short = le-ltb 32768 _ (c .before .before .before .if1 .left) in
-    rw (short, ← c .before .before .introduced .ensures, c .before .if2 .taken, eq-eqb _ 0 (c .if3 .taken))
+    rw (short, ← c .before .before .own-hello-passed .ensures, c .before .if2 .taken, eq-eqb _ 0 (c .if3 .taken))
 
 returns-3 : tie.Need-returns-3
 unfolding headerNumber
 returns-3 c =
     let short = le-ltb 32768 _ (c .before .before .before .if1 .left) in
-    rw (short, ← c .before .before .introduced .ensures, c .before .if2 .taken, ne-eqb _ 0 (c .if3 .left))
+    rw (short, ← c .before .before .own-hello-passed .ensures, c .before .if2 .taken, ne-eqb _ 0 (c .if3 .left))
 
 returns-4 : tie.Need-returns-4
 unfolding headerNumber
 returns-4 c =
     let short = le-ltb 32768 _ (c .before .before .before .if1 .left) in
-    rw (short, ← c .before .before .introduced .ensures, c .before .if2 .left, eq-eqb _ 0 (c .if4 .taken))
+    rw (short, ← c .before .before .own-hello-passed .ensures, c .before .if2 .left, eq-eqb _ 0 (c .if4 .taken))
 
 returns-5 : tie.Need-returns-5
 unfolding headerNumber
 returns-5 c =
     let short = le-ltb 32768 _ (c .before .before .before .if1 .left) in
-    rw (short, ← c .before .before .introduced .ensures, c .before .if2 .left, ne-eqb _ 0 (c .if4 .left))
+    rw (short, ← c .before .before .own-hello-passed .ensures, c .before .if2 .left, ne-eqb _ 0 (c .if4 .left))
 
 pub header-number-spec : {M : Type 1} → statement M
 header-number-spec =
-    tie.close (tie.spec returns introduced-requires returns-2 returns-3 returns-4 returns-5)
+    tie.close (tie.spec returns own-hello-passed-requires returns-2 returns-3 returns-4 returns-5)

@@ -16,12 +16,12 @@ Inv-loop s at n i₀ x₀ i x = (i ≤ i₀) × ((x ≡ le (i₀ - i) s (at + i)
 abbrev μ-loop : tie.MeasureT-loop
 μ-loop s at n i₀ x₀ i x = i
 
-smaller-requires : tie.Need-smaller-requires Inv-loop μ-loop
-smaller-requires c κs = tt
+minimum-requires : tie.Need-minimum-requires Inv-loop μ-loop
+minimum-requires c κs = tt
 
 loop-holds : tie.Need-loop-holds Inv-loop μ-loop
 loop-holds c =
-    let e : c .smaller .result - c .smaller .result ≡ 0 = omega arith in
+    let e : c .minimum .result - c .minimum .result ≡ 0 = omega arith in
     (omega arith, (rw e, rw e (lit< tt)))
 
 sub-i : tie.Need-sub-i Inv-loop μ-loop
@@ -30,7 +30,7 @@ sub-i c = omega arith
 mul-x : tie.Need-mul-x Inv-loop μ-loop
 mul-x c =
     let l = c .before .loop in
-    let n = c .before .before .smaller in
+    let n = c .before .before .minimum in
     omega (arith, grow (n .result) (l .i) (l .x) 0 (c .loop-test .taken) (l .inv .0) (l .inv .1 .1) (lit< tt), room (n .result) (l .i - 1) (omega arith))
 
 byte-after-requires : tie.Need-byte-after-requires Inv-loop μ-loop
@@ -40,14 +40,14 @@ cast-x : tie.Need-cast-x Inv-loop μ-loop
 cast-x c = omega arith
 
 next : (c : tie.After-byte-after Inv-loop μ-loop)
-    → c .before .before .loop .x * 256 + c .byte-after .result < 256 ^ (c .before .before .before .smaller .result - (c .before .before .loop .i - 1))
+    → c .before .before .loop .x * 256 + c .byte-after .result < 256 ^ (c .before .before .before .minimum .result - (c .before .before .loop .i - 1))
 next c =
     let l = c .before .before .loop in
-    grow (c .before .before .before .smaller .result) (l .i) (l .x) _ (c .before .loop-test .taken) (l .inv .0) (l .inv .1 .1) (omega arith)
+    grow (c .before .before .before .minimum .result) (l .i) (l .x) _ (c .before .loop-test .taken) (l .inv .0) (l .inv .1 .1) (omega arith)
 
 add-x : tie.Need-add-x Inv-loop μ-loop
 add-x c =
-    let n = c .before .before .before .smaller in
+    let n = c .before .before .before .minimum in
     omega (arith, next c, room (n .result) (c .before .before .loop .i - 1) (omega arith))
 
 loop-less : tie.Need-loop-less Inv-loop μ-loop
@@ -56,7 +56,7 @@ loop-less c = omega arith
 loop-again : tie.Need-loop-again Inv-loop μ-loop
 loop-again c =
     let l = c .before .before .loop in
-    let n = c .before .before .before .smaller .result in
+    let n = c .before .before .before .minimum .result in
     let a = c .before .before .before .before .before .args in
     (omega arith, (omega (arith, le-step (a .s .now) (a .at) n (l .i) (c .before .loop-test .taken) (l .inv .0), l .inv .1 .0), omega (arith, next c)))
 
@@ -64,7 +64,7 @@ returns : tie.Need-returns Inv-loop μ-loop
 returns c =
     let l = c .before .loop in
     let e : l .i ≡ 0 = omega arith in
-    (rw (e, add-zero, sub-zero, c .before .before .smaller .ensures) at (l .inv .1 .0), rw (e, sub-zero, c .before .before .smaller .ensures) at (l .inv .1 .1))
+    (rw (e, add-zero, sub-zero, c .before .before .minimum .ensures) at (l .inv .1 .0), rw (e, sub-zero, c .before .before .minimum .ensures) at (l .inv .1 .1))
 
 pub get-spec : {M : Type 1} → statement M
 get-spec =
@@ -72,7 +72,7 @@ get-spec =
     (tie.spec
     Inv-loop
     μ-loop
-    smaller-requires
+    minimum-requires
     loop-holds
     sub-i
     mul-x

@@ -6,11 +6,11 @@ use Rattle.number.proofs.Laws.{drop-take, slice-min}
 use Rattle.number.proofs.part.Statement.{statement}
 use Rattle.number.proofs.part.Tie as tie
 
-smaller-requires : tie.Need-smaller-requires
-smaller-requires c κs = search needs
+minimum-requires : tie.Need-minimum-requires
+minimum-requires c κs = search needs
 
-smaller-requires-2 : tie.Need-smaller-requires-2
-smaller-requires-2 c κs = search needs
+minimum-requires-2 : tie.Need-minimum-requires-2
+minimum-requires-2 c κs = search needs
 
 sub-result : tie.Need-sub-result
 sub-result c = search needs
@@ -24,15 +24,15 @@ part-result-end c = search needs
 returns : tie.Need-returns
 returns c =
     let a = c .before .before .before .before .args in
-    drop-take (c .before .smaller2 .result) (c .before .before .smaller .result) (a .s .now)
-    ∙ rw (c .before .smaller2 .ensures, c .before .before .smaller .ensures) (slice-min (a .a) (a .e) (a .s .now))
+    drop-take (c .before .minimum2 .result) (c .before .before .minimum .result) (a .s .now)
+    ∙ rw (c .before .minimum2 .ensures, c .before .before .minimum .ensures) (slice-min (a .a) (a .e) (a .s .now))
 
 pub part-spec : {M : Type 1} → statement M
 part-spec =
     tie.close
     (tie.spec
-    smaller-requires
-    smaller-requires-2
+    minimum-requires
+    minimum-requires-2
     sub-result
     part-result-start
     part-result-end

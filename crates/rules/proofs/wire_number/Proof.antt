@@ -16,8 +16,8 @@ facts-of-requires c κs = search needs
 part-of-requires : tie.Need-part-of-requires
 part-of-requires c κs = search needs
 
-less-requires : tie.Need-less-requires
-less-requires c κs = search needs
+saturating-sub-requires : tie.Need-saturating-sub-requires
+saturating-sub-requires c κs = search needs
 
 may-follow-requires : tie.Need-may-follow-requires
 may-follow-requires c κs = search needs
@@ -54,7 +54,7 @@ returns c =
       w .before .before .is-shared .ensures,
       m .may-send .ensures,
       m .before .may-follow .ensures,
-      m .before .before .less .ensures,
+      m .before .before .saturating-sub .ensures,
       r .part-of .ensures,
       e,
     )
@@ -67,7 +67,7 @@ wire-number-spec =
     shared-set-requires
     facts-of-requires
     part-of-requires
-    less-requires
+    saturating-sub-requires
     may-follow-requires
     may-send-requires
     is-shared-requires
