@@ -1,7 +1,7 @@
 //! The wire rules of document 01, read for themselves: what the library is measured with.
 //!
 //! A packet's bytes are judged by the link they arrive on: who sends, and which hellos have passed before. Sentences in
-//! quotation marks are document 01's; "entry n" is a reading of the list of open points.
+//! quotation marks are document 01's; where it leaves room, docs/DECISIONS.md has the reading.
 
 /// "10: length over 32,768".
 pub const LONGEST_BODY: u32 = 32_768;
@@ -46,7 +46,7 @@ impl Link {
         }
     }
 
-    /// "id is u64 once both hellos have passed and bit 5 is shared. Hellos always use the 12-byte header." (entry 1)
+    /// "id is u64 once both hellos have passed and bit 5 is shared. Hellos always use the 12-byte header."
     pub fn header_size(&self, kind: u32) -> usize {
         if kind != 0 && self.shares(IDS_OF_64_BITS) {
             16
@@ -213,12 +213,12 @@ impl Kind {
 /// The column "body bytes", with the data's size still free.
 fn body_size_holds(kind: u32, link: &Link, size: usize) -> bool {
     match kind {
-        0 => (64..=64 + 4 * 8).contains(&size) && size.is_multiple_of(4),
+        0 => (64..=64 + 4 * 8).contains(&size) && size % 4 == 0,
         1 if link.shares(CONNECT_VERSION) => size == 10,
         1 => size == 8,
         2 | 3 | 7 | 21 | 22 | 24 => size == 0,
         4 => size == 132,
-        // "96; 160 with bit 4; 288 with bits 4 and 0": bit 0 alone adds nothing (entry 5).
+        // "96; 160 with bit 4; 288 with bits 4 and 0": bit 0 alone adds nothing.
         5 if link.shares(MAX_PACKET_SIZE | BULK_STREAMS) => size == 288,
         5 if link.shares(MAX_PACKET_SIZE) => size == 160,
         5 => size == 96,
@@ -322,7 +322,7 @@ pub fn row_of(endpoint: u8) -> Option<u8> {
     Some(if is_in(endpoint) { number + 16 } else { number })
 }
 
-/// Bit 7 alone, also in a byte that is no address (entry 6).
+/// Bit 7 alone, also in a byte that is no address.
 pub fn is_in(endpoint: u8) -> bool {
     endpoint & 0x80 != 0
 }
@@ -507,7 +507,7 @@ fn id_holds(packet: &Packet) -> bool {
     packet.id == 0 || !has_id_zero(packet.kind)
 }
 
-/// "bits 4 to 6 are zero", in every endpoint field of every kind (entry 10).
+/// "bits 4 to 6 are zero", in every endpoint field of every kind.
 fn endpoint_holds(packet: &Packet) -> bool {
     match packet.endpoint() {
         Some(endpoint) => row_of(endpoint).is_some(),
@@ -515,7 +515,7 @@ fn endpoint_holds(packet: &Packet) -> bool {
     }
 }
 
-/// "A host's status is 0 to 6; a guest's is any byte." Of every kind that has one (entry 13).
+/// "A host's status is 0 to 6; a guest's is any byte." Of every kind that has one.
 fn status_holds(link: &Link, packet: &Packet) -> bool {
     match packet.number("status") {
         Some(status) => link.from_guest || status <= 6,
@@ -524,7 +524,7 @@ fn status_holds(link: &Link, packet: &Packet) -> bool {
 }
 
 /// "Kinds 15, 16, 25 to 27 and 104 name an IN endpoint. Iso from the guest is OUT, from the host IN; interrupt data from the
-/// guest is OUT." Kind 17 isn't among them (entry 12).
+/// guest is OUT." Kind 17 isn't among them.
 fn direction_holds(link: &Link, packet: &Packet) -> bool {
     let Some(endpoint) = packet.endpoint() else {
         return true;
@@ -578,7 +578,7 @@ fn request_direction_holds(packet: &Packet) -> bool {
     }
 }
 
-/// "13: hello has bit 0 without bit 4". One without words offers nothing (entry 3).
+/// "13: hello has bit 0 without bit 4". One without words offers nothing.
 fn offers_streams_without_packet_sizes(packet: &Packet) -> bool {
     match packet.get("words") {
         Some(Value::Words(words)) => match words.first() {
