@@ -217,7 +217,7 @@ fn read_body(caps: u32, slot: usize, body: &[u8]) -> Packet
 }
 
 // A body that lacks a field, or has more bytes than fields where nothing may follow: 23, or a number before it.
-// The second clause says only that an id is a u64, which a caller that takes it out of a header is not told.
+// It also says that the id is below 2 to the 64th.
 fn misfit(l: Link, slot: usize, id: u64) -> u8
     ensures { λ r. ⌜ (r ≡ misfitNumber l slot id) × (id < 256 ^ 8) ⌝ }
 {
