@@ -27,6 +27,7 @@ use packet::Part;
 use rows::Optional32;
 use rows::endpoint_row;
 use rows::interface_row;
+use rules::facts_of;
 
 fn hello_of(word: u64) -> Hello
     ensures { λ r. ⌜ r ≡ helloOf word ⌝ }
@@ -318,123 +319,12 @@ fn field_of(caps: u32, p: Packet, i: usize) -> u64
     }
 }
 
-fn packet_part(caps: u32, p: Packet) -> Part
+// The part of a packet's body that it names.
+fn packet_part(caps: u32, p: Packet, body: &[u8]) -> Part
     ensures { λ r. ⌜ r ≡ shownOf caps p .part ⌝ }
 {
-    match p {
-        Packet::Hello { rest } => rest,
-        Packet::Connect {
-            speed: _,
-            class: _,
-            subclass: _,
-            protocol: _,
-            vendor: _,
-            product: _,
-            version: _,
-        } => Part { start: 0, end: 0 },
-        Packet::Disconnect => Part { start: 0, end: 0 },
-        Packet::Reset => Part { start: 0, end: 0 },
-        Packet::InterfaceTable { count: _, rows } => rows,
-        Packet::EndpointTable {
-            rows,
-            max_packet: _,
-            max_streams: _,
-        } => rows,
-        Packet::SetConfiguration { configuration: _ } => Part { start: 0, end: 0 },
-        Packet::GetConfiguration => Part { start: 0, end: 0 },
-        Packet::ConfigurationStatus {
-            status: _,
-            configuration: _,
-        } => Part { start: 0, end: 0 },
-        Packet::SetAlt {
-            interface: _,
-            alt: _,
-        } => Part { start: 0, end: 0 },
-        Packet::GetAlt { interface: _ } => Part { start: 0, end: 0 },
-        Packet::AltStatus {
-            status: _,
-            interface: _,
-            alt: _,
-        } => Part { start: 0, end: 0 },
-        Packet::StartIso {
-            endpoint: _,
-            packets: _,
-            urbs: _,
-        } => Part { start: 0, end: 0 },
-        Packet::StopIso { endpoint: _ } => Part { start: 0, end: 0 },
-        Packet::IsoStatus {
-            status: _,
-            endpoint: _,
-        } => Part { start: 0, end: 0 },
-        Packet::StartInterrupt { endpoint: _ } => Part { start: 0, end: 0 },
-        Packet::StopInterrupt { endpoint: _ } => Part { start: 0, end: 0 },
-        Packet::InterruptStatus {
-            status: _,
-            endpoint: _,
-        } => Part { start: 0, end: 0 },
-        Packet::AllocStreams { mask: _, count: _ } => Part { start: 0, end: 0 },
-        Packet::FreeStreams { mask: _ } => Part { start: 0, end: 0 },
-        Packet::StreamsStatus {
-            mask: _,
-            count: _,
-            status: _,
-        } => Part { start: 0, end: 0 },
-        Packet::Cancel => Part { start: 0, end: 0 },
-        Packet::FilterReject => Part { start: 0, end: 0 },
-        Packet::Filter { string } => string,
-        Packet::DisconnectAck => Part { start: 0, end: 0 },
-        Packet::StartBulkReceiving {
-            stream: _,
-            bytes: _,
-            endpoint: _,
-            transfers: _,
-        } => Part { start: 0, end: 0 },
-        Packet::StopBulkReceiving {
-            stream: _,
-            endpoint: _,
-        } => Part { start: 0, end: 0 },
-        Packet::BulkReceivingStatus {
-            stream: _,
-            endpoint: _,
-            status: _,
-        } => Part { start: 0, end: 0 },
-        Packet::Control {
-            endpoint: _,
-            request: _,
-            requesttype: _,
-            status: _,
-            value: _,
-            index: _,
-            length: _,
-            data,
-        } => data,
-        Packet::Bulk {
-            endpoint: _,
-            status: _,
-            length: _,
-            stream: _,
-            data,
-        } => data,
-        Packet::Iso {
-            endpoint: _,
-            status: _,
-            length: _,
-            data,
-        } => data,
-        Packet::Interrupt {
-            endpoint: _,
-            status: _,
-            length: _,
-            data,
-        } => data,
-        Packet::BufferedBulk {
-            stream: _,
-            length: _,
-            endpoint: _,
-            status: _,
-            data,
-        } => data,
-    }
+    let f = facts_of(Side::Guest, caps, 0, p, body);
+    f.rest
 }
 
 // The number of the bytes of one packet.
@@ -469,7 +359,7 @@ pub extern "C" fn probe_part(sender: u8, guest: u64, host: u64, bytes: &[u8], en
     match read(l, bytes) {
         Reading::Refused(_) => 0,
         Reading::Passed(_, p) => {
-            let q = packet_part(shared_set(l), p);
+            let q = packet_part(shared_set(l), p, bytes);
             if end == 0 { q.start } else { q.end }
         }
     }
