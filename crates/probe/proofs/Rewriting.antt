@@ -16,7 +16,7 @@ use Rattle.decoder.specs.declared.Reading.the-variants.{Refused, Passed}
 use Rattle.decoder.specs.Reading.{told, readOf}
 use Rattle.encoder.specs.declared.Written.{Written}
 use Rattle.encoder.specs.Written.{Writes}
-use Rattle.probe.specs.Probe.{Rewrites}
+use Rattle.probe.specs.Probe.{Rewrites, WritesBulk, bulkOf}
 use Rattle.probe.proofs.Readings.{passing, refusing}
 
 module _ {l m : Link} (same-link : l ≡ m) {bytes : List ℕ} {r : Reading} (t : told l bytes r ≡ readOf l bytes) {out : List ℕ} where
@@ -31,3 +31,8 @@ module _ {l m : Link} (same-link : l ≡ m) {bytes : List ℕ} {r : Reading} (t 
       let s = passing t e in
       let c : contentOf (sharedSet l) (h .id) p body ≡ decode l bytes = rw (b, take-length bytes) (s .content) in
       record { size = rw (← same-link, s .number, ← c) (w .size); output = rw (← same-link, s .number, ← c) (w .output) }
+
+pub bulk-written : {l m : Link} → l ≡ m → {id e n : ℕ} {s out : List ℕ} {w : Written} {after : List ℕ}
+    → Writes l (bulkOf l id e n s) out w after
+    → WritesBulk m id e n s out (w .number) after
+bulk-written same w = record { number = rw (← same) (w .number); output = rw (← same) (w .output) }

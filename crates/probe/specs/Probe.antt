@@ -18,10 +18,12 @@ use Rattle.header.specs.Link.{sharedSet}
 use Rattle.header.specs.Header.{kindOf, headerSize}
 use Rattle.kinds.specs.Table.{kinds}
 use Rattle.kinds.specs.Content.{Value, Content, firstNumber, find}
-use Rattle.kinds.specs.Codec.{layout, decode, readNumber, writtenSize, written}
+use Rattle.kinds.specs.Codec.{layout, decode, readNumber, writeNumber, writtenSize, written}
 use Rattle.packet.specs.declared.Part.{Part}
 use Rattle.packet.specs.declared.Optional16.{Optional16}
 use Rattle.packet.specs.declared.Optional16.the-variants.{Absent, Present}
+use Rattle.packet.specs.declared.Packet.the-variants.{Bulk}
+use Rattle.packet.specs.Packet.{contentOf}
 use Rattle.rows.specs.declared.Optional32.{Optional32}
 use Rattle.rows.specs.declared.Optional32.the-variants.{Absent as Absent32, Present as Present32}
 use Rattle.rows.specs.Rows.{interfaceRow, endpointRow}
@@ -69,6 +71,14 @@ rowIn b = rowNumber (rowOf (record { 0 = b }))
 pub record Rewrites (l : Link) (bytes out : List ℕ) (n : ℕ) (after : List ℕ) : Type 0 where
   pub size : n ≡ cond (eqb (readNumber l bytes) 0) (writtenSize l (decode l bytes) (length out)) 0
   pub output : after ≡ cond (eqb (readNumber l bytes) 0) (written l (decode l bytes) out) out
+
+-- a bulk packet with this count and all of s as data
+abbrev pub bulkOf : Link → ℕ → ℕ → ℕ → List ℕ → Content
+bulkOf l id e n s = contentOf (sharedSet l) id (Bulk (record { 0 = e }) 0 n 0 (record { start = 0; end = length s })) s
+
+pub record WritesBulk (l : Link) (id e n : ℕ) (s out : List ℕ) (r : ℕ) (after : List ℕ) : Type 0 where
+  pub number : r ≡ writeNumber l (bulkOf l id e n s) (length out)
+  pub output : after ≡ written l (bulkOf l id e n s) out
 
 abbrev pub interfaceCell : List ℕ → ℕ → ℕ → ℕ
 interfaceCell rows row column =

@@ -7,7 +7,7 @@ ghost use lib.Seq.{slice};
 ghost use Rattle.kinds.specs.Codec.{readNumber};
 ghost use Rattle.kinds.specs.Content.{firstNumber};
 ghost use Rattle.packet.specs.Packet.{shownOf};
-ghost use Rattle.probe.specs.Probe.{helloOf, linkOf, fieldIn, partIn, Rewrites, rowIn, value16, value32Of, highNumber, interfaceCell, endpointCell};
+ghost use Rattle.probe.specs.Probe.{helloOf, linkOf, fieldIn, partIn, Rewrites, WritesBulk, rowIn, value16, value32Of, highNumber, interfaceCell, endpointCell};
 use decoder::Reading;
 use decoder::read;
 use encoder::write;
@@ -398,6 +398,36 @@ pub extern "C" fn probe_rewrite(
             w.size
         }
     }
+}
+
+// Writes a bulk packet with this count and all of body as its data, status and stream 0: the number.
+#[no_mangle]
+pub extern "C" fn probe_write_bulk(
+    sender: u8,
+    guest: u64,
+    host: u64,
+    id: u64,
+    endpoint: u8,
+    count: u32,
+    body: &[u8],
+    out: &mut [u8],
+) -> u8
+    ensures { λ r. ⌜ WritesBulk (linkOf sender guest host) id endpoint count (now (body .entry)) (now (out .entry)) r (now (out .exit)) ⌝ }
+{
+    let l = link_of(sender, guest, host);
+    let rest = Part {
+        start: 0,
+        end: body.len(),
+    };
+    let p = Packet::Bulk {
+        endpoint: Endpoint(endpoint),
+        status: 0,
+        length: count,
+        stream: 0,
+        data: rest,
+    };
+    let w = write(l, id, p, body, out);
+    w.number
 }
 
 // A column (0 number, 1 class, 2 subclass, 3 protocol) of a row of an interface table whose rows are that part of body.

@@ -197,6 +197,10 @@ fn readings() -> Vec<Example> {
         example("one hello offers bit 5", one_offers_64, header(7, 0, 7), 0),
         hex_example("a bulk count with 10 added in 32 bits", guest(0x40),
                     "65000000 09000000 09000000 02 00 ffff 00000000 ff", 23),
+        hex_example("a bulk count of 65,537 over two bytes", guest(0x40),
+                    "65000000 0c000000 09000000 02 00 0100 00000000 0100 aabb", 23),
+        hex_example("a bulk count of 65,538 over two bytes", guest(0x40),
+                    "65000000 0c000000 09000000 02 00 0200 00000000 0100 aabb", 23),
         hex_example("speed 0", host(0), "01000000 08000000 00000000 00 09 00 01 3412 7856", 0)
             .reads(&[0, 9, 0, 1, 0x1234, 0x5678, 0]),
         hex_example("speed 4", host(0), "01000000 08000000 00000000 04 09 00 01 3412 7856", 24),

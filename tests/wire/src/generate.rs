@@ -235,6 +235,11 @@ fn fit_data(random: &mut Random, link: &Link, packet: &mut Packet) {
     packet.set("length low", Value::Number(size));
     if packet.number("length high").is_some() {
         packet.set("length high", Value::Number(0));
+        if size > 0 && random.one_in(20) {
+            // a count whose parts add up to the size, and which is far over it
+            packet.set("length low", Value::Number(size - 1));
+            packet.set("length high", Value::Number(1));
+        }
     }
 }
 

@@ -1,12 +1,13 @@
 //! The functions of crates/probe/src/lib.rt behind safe ones. With the feature `self-test` the oracle answers instead.
 
 pub use answers::{
-    endpoint_cell, field, interface_cell, number, part_end, part_start, rewrite, row,
+    endpoint_cell, field, interface_cell, number, part_end, part_start, rewrite, row, write_bulk,
 };
 
 #[cfg(not(feature = "self-test"))]
 mod answers {
     use crate::oracle::Link;
+    use crate::writer::Bulk;
 
     // The archive takes a slice as a pointer, then its length.
     extern "C" {
@@ -41,6 +42,19 @@ mod answers {
             out: *mut u8,
             out_size: usize,
         ) -> usize;
+
+        fn probe_write_bulk(
+            sender: u8,
+            guest: u64,
+            host: u64,
+            id: u64,
+            endpoint: u8,
+            count: u32,
+            body: *const u8,
+            size: usize,
+            out: *mut u8,
+            out_size: usize,
+        ) -> u8;
 
         fn probe_interface(
             body: *const u8,
@@ -135,6 +149,28 @@ mod answers {
         }
     }
 
+    /// Writes a bulk packet: the number.
+    pub fn write_bulk(link: &Link, packet: &Bulk, out: &mut [u8]) -> u8 {
+        let (guest, host) = (hello(link.guest), hello(link.host));
+        let (data, data_size) = (packet.data.as_ptr(), packet.data.len());
+        let (output, output_size) = (out.as_mut_ptr(), out.len());
+        // SAFETY: as in `rewrite`.
+        unsafe {
+            probe_write_bulk(
+                sender(link),
+                guest,
+                host,
+                packet.id,
+                packet.endpoint,
+                packet.count,
+                data,
+                data_size,
+                output,
+                output_size,
+            )
+        }
+    }
+
     /// A column of a row of the interface table whose rows are that part of the body.
     pub fn interface_cell(body: &[u8], start: usize, end: usize, row: usize, column: usize) -> u64 {
         // SAFETY: as in `number`.
@@ -160,6 +196,7 @@ mod answers {
 #[cfg(feature = "self-test")]
 mod answers {
     use crate::oracle::{self, Link, Packet, Shape, Value};
+    use crate::writer::{self, Bulk};
 
     pub fn number(link: &Link, bytes: &[u8]) -> u8 {
         oracle::read(link, bytes).err().unwrap_or(0)
@@ -217,6 +254,10 @@ mod answers {
             }
             None => 0,
         }
+    }
+
+    pub fn write_bulk(link: &Link, packet: &Bulk, out: &mut [u8]) -> u8 {
+        writer::write(link, packet, out)
     }
 
     pub fn interface_cell(body: &[u8], start: usize, end: usize, row: usize, column: usize) -> u64 {

@@ -1,4 +1,4 @@
-//! Tests of the wire library: captured packets, marked examples, generated and damaged packets.
+//! Tests of the wire library: captured packets, marked examples, generated and damaged packets, packets to be written.
 //!
 //! `wire [DIRECTORY]`: the directory holds captures with their sidecars; the fixtures beside the manifest if none is given.
 //! The environment variable SEED repeats a run of the generated packets.
@@ -14,6 +14,7 @@ mod library;
 mod oracle;
 mod random;
 mod report;
+mod writer;
 
 use std::env;
 use std::path::PathBuf;
@@ -29,6 +30,7 @@ fn main() -> ExitCode {
     let captured = capture::run(&directory(), &mut report);
     examples::run(&mut report);
     differential::run(seed, &captured, &mut report);
+    writer::run(seed, &mut report);
     if report.close() {
         ExitCode::SUCCESS
     } else {
