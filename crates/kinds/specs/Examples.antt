@@ -4,10 +4,10 @@ use mathlib.Core.Path.{_≡_, refl}
 use mathlib.Core.Bool.{Bool, true, false, cond, _&&_, _||_}
 use mathlib.Core.List.{List, [], _∷_, map}
 use mathlib.Core.Option.{none, some}
-use Prim.Native.Nat.{ℕ}
+use Prim.Native.Nat.{ℕ, _+_, _*_}
 use Prim.Native.String.{String}
-use lib.ListN.{replicate, set}
-use lib.Dec.{leb}
+use lib.ListN.{replicate, set, length}
+use lib.Dec.{eqb, leb}
 use lib.Text.{eqt}
 use Rattle.header.specs.declared.Side.{Side}
 use Rattle.header.specs.declared.Side.the-variants.{Guest, Host}
@@ -20,8 +20,8 @@ use Rattle.header.specs.Link.{sharedSet, idWidth}
 use Rattle.kinds.specs.Table.{Bits, always, bit, bits, Field, Tail, nothing, words, string, payload, payload-onward, Kind, kinds, kindAt}
 use Rattle.kinds.specs.Content.{Value, one, Content, shared, size}
 use Rattle.header.specs.Header.{headerSize, headerBytes, headerNumber}
-use Rattle.kinds.specs.Number.{bad, kindNumber, wireNumber}
-use Rattle.kinds.specs.Codec.{layout, contentAt, decode, readNumber, encode, packetNumber, writeNumber}
+use Rattle.kinds.specs.Number.{dataLength, bad, kindNumber, wireNumber}
+use Rattle.kinds.specs.Codec.{layout, contentAt, decode, readNumber, encode, packetNumber, writeNumber, written, writtenSize}
 
 -- ---- sizes
 
@@ -185,10 +185,12 @@ pub places : (bad Host 17 (kindAt 5) (table 4 rows rows) ≡ some 17)
     × (bad Host 0 (kindAt 2) (packet 2 1 [] []) ≡ some 65535)
     × (bad Host 0 (kindAt 2) (packet 2 0 [] []) ≡ none)
     × (bad Host 2 (kindAt 1) (connect 0 none) ≡ some 8)
+    × (bad Host 0 (kindAt 1) (packet 1 1 (one 4 ∷ one 0 ∷ one 0 ∷ one 0 ∷ one 0 ∷ one 0 ∷ none ∷ []) []) ≡ some 0)
+    × (bad Guest 0 (kindAt 0) (packet 0 1 (some (replicate 64 1) ∷ []) []) ≡ some 0)
     × (bad Host 16 (kindAt 5) (table 0 none none) ≡ some 96)
     × (bad Host 17 (kindAt 5) (table 0 rows none) ≡ some 160)
 unfolding bad kinds
-places = (refl, refl, refl, refl, refl, refl, refl, refl)
+places = (refl, refl, refl, refl, refl, refl, refl, refl, refl, refl)
 
 -- ---- the writer: the presence rules, 10 first and 40 last
 
@@ -205,10 +207,21 @@ pub writer : (writing Guest 0 12 (packet 7 7 [] []) ≡ 0)
     × (writing Guest 0 0 (packet 7 4294967296 [] []) ≡ 22)
     × (writing Guest 0 0 (packet 22 4294967296 [] []) ≡ 22)
     × (writing Guest 0 0 (hello 0 []) ≡ 12)
+    × (first (packet 0 4294967296 (some (replicate 64 0) ∷ []) []) ≡ 24)  -- a hello's id has to be 0, however wide it is
     × (writing Guest 0 0 (bulk 0 none (replicate 32760 0)) ≡ 23)
     × (writing Guest 0 0 (bulk 0 none (replicate 32761 0)) ≡ 10)
 unfolding sharedSet idWidth headerSize headerBytes headerNumber layout encode packetNumber writeNumber wireNumber kindNumber bad kinds
-writer = (refl, refl, refl, refl, refl, refl, refl, refl, refl, refl, refl)
+writer = (refl, refl, refl, refl, refl, refl, refl, refl, refl, refl, refl, refl)
+
+-- a refused write leaves the output as it was and counts no byte
+pub untouched : (l : Link) (p : Content) (out : List ℕ) → eqb (writeNumber l p (length out)) 0 ≡ false → (written l p out ≡ out) × (writtenSize l p (length out) ≡ 0)
+unfolding written writtenSize
+untouched l p out e = (rw e, rw e)
+
+-- "The bulk count is low + 65,536 times high"
+pub count : (low high : ℕ) → dataLength (layout 101) (one 2 ∷ one 0 ∷ one low ∷ one 0 ∷ one high ∷ []) ≡ low + 65536 * high
+unfolding layout kinds
+count low high = refl
 
 -- ---- marked examples, as far as one packet decides them: the bytes, and their number when they are read
 
