@@ -133,6 +133,21 @@ fn endpoint_table(size: u32) -> Vec<u8> {
     bytes
 }
 
+/// The same with another type in one row.
+fn endpoint_table_with(row: usize, kind: u8) -> Vec<u8> {
+    let mut bytes = endpoint_table(96);
+    bytes[12 + row] = kind;
+    bytes
+}
+
+/// An interface table with that count.
+fn interface_table(count: u32) -> Vec<u8> {
+    let mut bytes = header(4, 132, 0);
+    bytes.extend(count.to_le_bytes());
+    bytes.extend([0; 128]);
+    bytes
+}
+
 // -- the examples -----------------------------------------------------------------------------------------------------------
 
 #[rustfmt::skip]
@@ -167,6 +182,13 @@ fn readings() -> Vec<Example> {
         example("endpoint table with bit 0 alone", host(0x01), endpoint_table(96), 0),
         example("endpoint table with bit 4", host(0x10), endpoint_table(160), 0),
         example("endpoint table with bits 4 and 0", host(0x11), endpoint_table(288), 0),
+        example("type 3 in row 31", host(0), endpoint_table_with(31, 3), 0),
+        example("type 4 in row 31", host(0), endpoint_table_with(31, 4), 24),
+        example("type 255 in row 15", host(0), endpoint_table_with(15, 255), 0),
+        example("row 16 is iso", host(0), endpoint_table_with(16, 1), 24),
+        example("row 0 is invalid", host(0), endpoint_table_with(0, 255), 24),
+        example("an interface count of 32", host(0), interface_table(32), 0),
+        example("an interface count of 33", host(0), interface_table(33), 24),
         hex_example("bad endpoint, wrong size", guest(0), "65000000 09000000 09000000 12 00 0200 00000000 aa", 23),
         hex_example("guest iso on IN", guest(0), "66000000 05000000 09000000 81 00 0100 aa", 24),
         hex_example("guest iso on IN, wrong size", guest(0), "66000000 04000000 09000000 81 00 0100", 23),
