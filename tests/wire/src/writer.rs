@@ -1,7 +1,9 @@
 //! The writer on bulk packets, also on those that it has to refuse: its number, and every byte of the output.
 
 use crate::library;
-use crate::oracle::{self, Link, BULK_LENGTH_OF_32_BITS, IDS_OF_64_BITS, LONGEST_BODY};
+use crate::oracle::{
+    self, Link, Packet, Value, BULK_LENGTH_OF_32_BITS, IDS_OF_64_BITS, LONGEST_BODY,
+};
 use crate::random::Random;
 use crate::report::{ensure, Report};
 
@@ -17,6 +19,30 @@ pub struct Bulk {
     pub endpoint: u8,
     pub count: u32,
     pub data: Vec<u8>,
+}
+
+impl Bulk {
+    /// The oracle's packet, with the count's high part or without.
+    fn on_the_wire(&self, wide: bool) -> Packet {
+        let number = |n: u32| Value::Number(u64::from(n));
+        let high = if wide {
+            number(self.count >> 16)
+        } else {
+            Value::Absent
+        };
+        Packet {
+            kind: 101,
+            id: self.id,
+            fields: vec![
+                ("endpoint", number(u32::from(self.endpoint))),
+                ("status", number(0)),
+                ("length low", number(self.count & 0xffff)),
+                ("stream", number(0)),
+                ("length high", high),
+                ("data", Value::Bytes(self.data.clone())),
+            ],
+        }
+    }
 }
 
 pub fn run(seed: u64, report: &mut Report) {
@@ -86,21 +112,19 @@ pub fn write(link: &Link, packet: &Bulk, out: &mut [u8]) -> u8 {
         23
     } else if packet.endpoint & 0x70 != 0 {
         24
-    } else if out.len() < link.header_size(101) + body {
-        40
     } else {
-        let mut bytes = vec![101, 0, 0, 0];
-        bytes.extend_from_slice(&(body as u32).to_le_bytes());
-        bytes.extend_from_slice(&packet.id.to_le_bytes()[..link.header_size(101) - 8]);
-        bytes.extend_from_slice(&[packet.endpoint, 0]);
-        bytes.extend_from_slice(&packet.count.to_le_bytes()[..2]);
-        bytes.extend_from_slice(&[0; 4]);
-        if wide {
-            bytes.extend_from_slice(&packet.count.to_le_bytes()[2..]);
+        put(&oracle::write(link, &packet.on_the_wire(wide)), out)
+    }
+}
+
+/// The bytes in front of the output, or 40.
+fn put(bytes: &[u8], out: &mut [u8]) -> u8 {
+    match out.get_mut(..bytes.len()) {
+        Some(front) => {
+            front.copy_from_slice(bytes);
+            0
         }
-        bytes.extend_from_slice(&packet.data);
-        out[..bytes.len()].copy_from_slice(&bytes);
-        0
+        None => 40,
     }
 }
 
