@@ -1,0 +1,85 @@
+-- Laws of the rows: which changes of them leave their number, their types, and rows 0 and 16 control.
+-- Assumes nothing.
+use Prim.Native.Nat.{ℕ, _<_}
+use mathlib.Core.Path.{_≡_, refl, ap, _∙_}
+use mathlib.Core.Bool.{Bool, true, false, cond, _&&_}
+use native.Mathlib.Nat.{zero-add}
+use native.Mathlib.Omega.{arith}
+use lib.ListN.{length, getD, set, length-set}
+use lib.Dec.{eqb}
+use Rattle.endpoint.specs.declared.Endpoint.{Endpoint}
+use Rattle.endpoint.specs.declared.RowOf.{RowOf}
+use Rattle.endpoint.specs.declared.RowOf.the-variants.{At, Malformed}
+use Rattle.endpoint.specs.Endpoint.{rowOf}
+use Rattle.scan.specs.Laws.{each-length, each-at, each-keeps, set-keeps}
+use Rattle.device.specs.declared.RowState.{RowState}
+use Rattle.device.specs.declared.Rows.{Rows}
+use Rattle.device.specs.declared.Scope.{Scope}
+use Rattle.device.specs.Device.{control, closedRow, startRows, replaced, withStream, streamIn, streamTo, touches, shut, closed, controlRows}
+
+-- rows of the same types are alike in their control rows
+same-control : (a b : Rows) → getD (a .rows) 0 (closedRow 0) .kind ≡ getD (b .rows) 0 (closedRow 0) .kind → getD (a .rows) 16 (closedRow 0) .kind ≡ getD (b .rows) 16 (closedRow 0) .kind → controlRows a ≡ controlRows b
+same-control a b out inward = λ j. eqb (out j) control && eqb (inward j) control
+
+-- ---- the start
+
+pub start-control : controlRows startRows ≡ true
+unfolding startRows
+start-control = refl
+
+-- ---- closing the streams of a scope
+
+shut-kind : (s : Scope) (i : ℕ) (r : RowState) → shut s i r .kind ≡ r .kind
+shut-kind s i r = either (touches s i r)
+  where
+    either : (b : Bool) → cond b (withStream false r) r .kind ≡ r .kind
+    either true = refl
+    either false = refl
+
+pub closed-length : (d : Rows) (s : Scope) → length (closed d s .rows) ≡ length (d .rows)
+unfolding closed
+closed-length d s = each-length (shut s) (d .rows) 0
+
+pub closed-kind : (d : Rows) (s : Scope) (k : ℕ) → getD (closed d s .rows) k (closedRow 0) .kind ≡ getD (d .rows) k (closedRow 0) .kind
+unfolding closed
+closed-kind d s k = each-keeps (shut s) (λ (r : RowState). r .kind) (shut-kind s) (d .rows) 0 k (closedRow 0)
+
+pub closed-control : (d : Rows) (s : Scope) → controlRows (closed d s) ≡ controlRows d
+closed-control d s = same-control (closed d s) d (closed-kind d s 0) (closed-kind d s 16)
+
+-- ---- opening or closing the stream of an endpoint
+
+-- what a change of the stream of any one row keeps is kept
+stream-keeps : {X : Type 0} (g : Rows → X) (d : Rows) (e : Endpoint) (k : ℕ) (b : Bool) → ((i : ℕ) → g (record { rows = set (d .rows) i (withStream b (getD (d .rows) i (closedRow 0))) }) ≡ g d) → g (streamTo d e k b) ≡ g d
+unfolding streamTo
+stream-keeps {X} g d e k b h = at (rowOf e)
+  where
+    either : (t : Bool) (i : ℕ) → g (cond t (record { rows = set (d .rows) i (withStream b (getD (d .rows) i (closedRow 0))) }) d) ≡ g d
+    either true i = h i
+    either false i = refl
+
+    at : (o : RowOf) → g (streamIn d o k b) ≡ g d
+    at (At r) = either (eqb (getD (d .rows) (r .0) (closedRow 0) .kind) k) (r .0)
+    at Malformed = refl
+
+pub stream-length : (d : Rows) (e : Endpoint) (k : ℕ) (b : Bool) → length (streamTo d e k b .rows) ≡ length (d .rows)
+stream-length d e k b = stream-keeps (λ (a : Rows). length (a .rows)) d e k b (λ (i : ℕ). length-set (d .rows) i _)
+
+pub stream-kind : (d : Rows) (e : Endpoint) (k : ℕ) (b : Bool) (n : ℕ) → getD (streamTo d e k b .rows) n (closedRow 0) .kind ≡ getD (d .rows) n (closedRow 0) .kind
+stream-kind d e k b n = stream-keeps (λ (a : Rows). getD (a .rows) n (closedRow 0) .kind) d e k b (λ (i : ℕ). set-keeps (λ (r : RowState). r .kind) (d .rows) i n (closedRow 0) _ refl)
+
+pub stream-control : (d : Rows) (e : Endpoint) (k : ℕ) (b : Bool) → controlRows (streamTo d e k b) ≡ controlRows d
+stream-control d e k b = same-control (streamTo d e k b) d (stream-kind d e k b 0) (stream-kind d e k b 16)
+
+-- ---- a new endpoint table
+
+pub replaced-length : (new d : Rows) → length (replaced new d .rows) ≡ length (d .rows)
+unfolding replaced
+replaced-length new d = each-length _ (d .rows) 0
+
+pub replaced-kind : (new d : Rows) (k : ℕ) → k < length (d .rows) → getD (replaced new d .rows) k (closedRow 0) .kind ≡ getD (new .rows) k (closedRow 0) .kind
+unfolding replaced
+replaced-kind new d k h = ap (λ (r : RowState). r .kind) (each-at _ (d .rows) 0 k (closedRow 0) h) ∙ ap (λ (i : ℕ). getD (new .rows) i (closedRow 0) .kind) (zero-add k)
+
+pub replaced-control : (new d : Rows) → length (d .rows) ≡ 32 → controlRows new ≡ true → controlRows (replaced new d) ≡ true
+replaced-control new d n c = same-control (replaced new d) new (replaced-kind new d 0 (omega arith)) (replaced-kind new d 16 (omega arith)) ∙ c

@@ -1,0 +1,26 @@
+-- Searching a list and changing each of its elements, by index.
+-- Assumes nothing: these are definitions.
+use Prim.Native.Nat.{ℕ, suc}
+use mathlib.Core.Bool.{Bool, true, false, cond, _||_}
+use mathlib.Core.List.{List, [], _∷_}
+use mathlib.Core.Option.{Option, none, some}
+
+-- the index of the first element that passes the test, counted from i
+unfoldable pub firstAt : {A : Type 0} → (A → Bool) → ℕ → List A → Option ℕ
+firstAt p i [] = none
+firstAt p i (x ∷ xs) = cond (p x) (some i) (firstAt p (suc i) xs)
+
+-- an element passes the test
+unfoldable pub exists : {A : Type 0} → (A → Bool) → List A → Bool
+exists p [] = false
+exists p (x ∷ xs) = p x || exists p xs
+
+-- an element passes the test, which also sees its index, counted from i
+unfoldable pub anyAt : {A : Type 0} → (ℕ → A → Bool) → ℕ → List A → Bool
+anyAt p i [] = false
+anyAt p i (x ∷ xs) = p i x || anyAt p (suc i) xs
+
+-- each element changed by a function that also sees its index, counted from i
+unfoldable pub eachAt : {A : Type 0} → (ℕ → A → A) → ℕ → List A → List A
+eachAt f i [] = []
+eachAt f i (x ∷ xs) = f i x ∷ eachAt f (suc i) xs
