@@ -1,13 +1,110 @@
--- What a search finds and what a change of each element leaves, in relations.
+-- What a search finds and what a change of one element or of each leaves, in relations.
 -- Assumes nothing.
 use Prim.Native.Nat.{ℕ, zero, suc, _+_, _<_}
-use mathlib.Core.Path.{_≡_, refl, ap, _∙_}
+use mathlib.Core.Path.{_≡_, refl, sym, ap, _∙_}
+use mathlib.Core.Bool.{Bool, true, false, cond, true≢false, or-true}
 use mathlib.Core.List.{List, [], _∷_}
-use native.Mathlib.Nat.{add-zero, add-suc, suc-add}
+use mathlib.Core.Option.{Option, none, some, Option·some-injective, Option·none-ne-some, Option·some-ne-none}
+use native.Mathlib.Nat.{add-zero, zero-add, add-suc, suc-add}
 use native.Mathlib.Omega.{arith}
 use lib.ListN.{length, getD, set}
-use Rattle.scan.specs.Scan.{eachAt}
+use lib.Seq.{getD-set-same, getD-set-other}
+use lib.Dec.{eqb}
+use borrow.Author.Tests.{eqb-true, eqb-false}
+use borrow.Table.Steps.{cases}
+use Rattle.scan.specs.Scan.{firstAt, exists, eachAt}
 use Rattle.scan.specs.Loop.{upTo, upto-at, upto-more}
+
+-- ---- the first that passes
+
+module _ {A : Type 0} (p : A → Bool) where
+  -- the element at n passes, and none before it
+  abbrev First : List A → A → ℕ → Type 0
+  First l d n = (n < length l) × (p (getD l n d) ≡ true) × ((j : ℕ) → j < n → p (getD l j d) ≡ false)
+
+  first-behind : (x : A) (xs : List A) (d : A) (n : ℕ) → p x ≡ false → First xs d n → First (x ∷ xs) d (suc n)
+  first-behind x xs d n e f = (omega (arith, f .0), f .1, before)
+    where
+      before : (j : ℕ) → j < suc n → p (getD (x ∷ xs) j d) ≡ false
+      before zero h = e
+      before (suc j) h = f .2 j (omega arith)
+
+  first-from : (k : ℕ) (l : List A) (i : ℕ) (d : A) → firstAt p k l ≡ some i → (n : ℕ) × (k + n ≡ i) × First l d n
+  unfolding firstAt
+  first-from k [] i d e = absurd (Option·none-ne-some i e)
+  first-from k (x ∷ xs) i d e = go (p x) refl (first-from (suc k) xs i d) e
+    where
+      go : (b : Bool) → p x ≡ b → (firstAt p (suc k) xs ≡ some i → (n : ℕ) × (suc k + n ≡ i) × First xs d n)
+          → cond b (some k) (firstAt p (suc k) xs) ≡ some i → (n : ℕ) × (k + n ≡ i) × First (x ∷ xs) d n
+      go true t ih q = (0, add-zero k ∙ Option·some-injective k i q, (omega arith, t, λ j h. absurd (omega arith)))
+      go false t ih q = let r = ih q in (suc (r .0), omega (arith, r .1), first-behind x xs d (r .0) t (r .2))
+
+  absent-from : (k : ℕ) (l : List A) (d : A) → firstAt p k l ≡ none → (j : ℕ) → j < length l → p (getD l j d) ≡ false
+  unfolding firstAt
+  absent-from k [] d e j h = absurd (omega arith)
+  absent-from k (x ∷ xs) d e j h = go (p x) refl (absent-from (suc k) xs d) e j h
+    where
+      go : (b : Bool) → p x ≡ b → (firstAt p (suc k) xs ≡ none → (j : ℕ) → j < length xs → p (getD xs j d) ≡ false)
+          → cond b (some k) (firstAt p (suc k) xs) ≡ none → (j : ℕ) → j < length (x ∷ xs) → p (getD (x ∷ xs) j d) ≡ false
+      go true t ih q j h = absurd (Option·some-ne-none k q)
+      go false t ih q zero h = t
+      go false t ih q (suc j) h = ih q j (omega arith)
+
+  module _ (l : List A) where
+    first-is : (i : ℕ) (d : A) → firstAt p 0 l ≡ some i → First l d i
+    first-is i d e = let r = first-from 0 l i d e in rw (← (sym (zero-add (r .0)) ∙ r .1)) (r .2)
+
+    -- what is found stands in the list and passes
+    pub first-found : (i : ℕ) (d : A) → firstAt p 0 l ≡ some i → (i < length l) × (p (getD l i d) ≡ true)
+    first-found i d e = let f = first-is i d e in (f .0, f .1)
+
+    -- none before it passes
+    pub first-lowest : (i : ℕ) (d : A) → firstAt p 0 l ≡ some i → (j : ℕ) → j < i → p (getD l j d) ≡ false
+    first-lowest i d e = first-is i d e .2
+
+    -- where none is found, none passes
+    pub first-absent : (d : A) → firstAt p 0 l ≡ none → (j : ℕ) → j < length l → p (getD l j d) ≡ false
+    first-absent d e = absent-from 0 l d e
+
+    -- where one passes, one is found
+    pub first-some : (d : A) (j : ℕ) → j < length l → p (getD l j d) ≡ true → (i : ℕ) × (firstAt p 0 l ≡ some i)
+    first-some d j h e = go (firstAt p 0 l) refl
+      where
+        go : (o : Option ℕ) → firstAt p 0 l ≡ o → (i : ℕ) × (firstAt p 0 l ≡ some i)
+        go none q = absurd (true≢false (sym e ∙ first-absent d q j h))
+        go (some i) q = (i, q)
+
+  -- ---- one that passes
+
+  pub exists-at : (l : List A) (d : A) (j : ℕ) → j < length l → p (getD l j d) ≡ true → exists p l ≡ true
+  unfolding exists
+  exists-at [] d j h e = absurd (omega arith)
+  exists-at (x ∷ xs) d zero h e = rw e
+  exists-at (x ∷ xs) d (suc j) h e = rw (exists-at xs d j (omega arith) e) (or-true (p x))
+
+  pub exists-not : (l : List A) (d : A) → ((j : ℕ) → j < length l → p (getD l j d) ≡ false) → exists p l ≡ false
+  unfolding exists
+  exists-not [] d f = refl
+  exists-not (x ∷ xs) d f = rw (f 0 (omega arith)) (exists-not xs d (λ j h. f (suc j) (omega arith)))
+
+-- ---- one element changed
+
+pub getD-set : {A : Type 0} (l : List A) (i j : ℕ) (a d : A) → j < length l → getD (set l i a) j d ≡ cond (eqb j i) a (getD l j d)
+getD-set l i j a d h = cases (eqb j i) there elsewhere
+  where
+    there : eqb j i ≡ true → getD (set l i a) j d ≡ cond (eqb j i) a (getD l j d)
+    there e = let q : j ≡ i = eqb-true j i e in rw (e, q) (getD-set-same l i a d (rw (← q) h))
+
+    elsewhere : eqb j i ≡ false → getD (set l i a) j d ≡ cond (eqb j i) a (getD l j d)
+    elsewhere e = rw e (getD-set-other l i j a d (eqb-false j i e))
+
+-- what the change keeps of it is kept at every index, also where the change or the index is past the end
+pub set-keeps : {A B : Type 0} (g : A → B) (l : List A) (i k : ℕ) (d y : A) → g y ≡ g (getD l i d) → g (getD (set l i y) k d) ≡ g (getD l k d)
+set-keeps g [] i k d y h = refl
+set-keeps g (x ∷ xs) zero zero d y h = h
+set-keeps g (x ∷ xs) zero (suc k) d y h = refl
+set-keeps g (x ∷ xs) (suc i) zero d y h = refl
+set-keeps g (x ∷ xs) (suc i) (suc k) d y h = set-keeps g xs i k d y h
 
 -- ---- a change of each element
 
@@ -35,13 +132,3 @@ module _ {A : Type 0} (f : ℕ → A → A) where
   upto-step n l t d y h e v =
       let w : y ≡ f n (getD l n d) = v ∙ ap (λ (z : List A). f n (getD z n d)) e ∙ ap (f n) (upto-at f 0 n l d) in
       (λ j. set (e j) n (w j)) ∙ upto-more f n l d h
-
--- ---- a change of one element
-
--- what the change keeps of it is kept at every index, also where the change or the index is past the end
-pub set-keeps : {A B : Type 0} (g : A → B) (l : List A) (i k : ℕ) (d y : A) → g y ≡ g (getD l i d) → g (getD (set l i y) k d) ≡ g (getD l k d)
-set-keeps g [] i k d y h = refl
-set-keeps g (x ∷ xs) zero zero d y h = h
-set-keeps g (x ∷ xs) zero (suc k) d y h = refl
-set-keeps g (x ∷ xs) (suc i) zero d y h = refl
-set-keeps g (x ∷ xs) (suc i) (suc k) d y h = set-keeps g xs i k d y h

@@ -24,12 +24,12 @@ use Rattle.events.specs.declared.Class.the-variants.{Hello as HelloClass, Conne
 use Rattle.events.specs.declared.Typed.{Typed}
 use Rattle.events.specs.declared.Typed.the-variants.{Untyped, Row, Mask}
 use Rattle.events.specs.declared.Event.{Event}
-use Rattle.session.specs.declared.Match.{Match}
-use Rattle.session.specs.declared.Match.the-variants.{Unmatched, Matched}
+use Rattle.checks.specs.Checks.{matchOf, numberFor}
+use Rattle.checks.specs.declared.Match.{Match}
+use Rattle.checks.specs.declared.Match.the-variants.{Unmatched, Matched}
 use Rattle.session.specs.declared.Session.{Session}
 use Rattle.session.specs.declared.Judged.{Judged}
 use Rattle.session.specs.Session.{isShared}
-use Rattle.session.specs.Checks.{matchOf, numberFor}
 
 -- ---- hellos: the first capability word of a side's hello; one that has passed stays as it is
 
@@ -37,21 +37,24 @@ abbrev pub greeted : Hello → ℕ → Hello
 greeted Awaited word = Passed word
 greeted (Passed w) word = Passed w
 
+abbrev pub isHello : Class → Bool
+isHello HelloClass = true
+isHello Connect = false
+isHello Interfaces = false
+isHello Endpoints = false
+isHello Disconnect = false
+isHello Reset = false
+isHello Ack = false
+isHello Cancel = false
+isHello Filter = false
+isHello StartRequest = false
+isHello PlainRequest = false
+isHello StreamStatus = false
+isHello PlainReply = false
+isHello StreamData = false
+
 abbrev pub helloAfter : Class → Bool → ℕ → Hello → Hello
-helloAfter HelloClass own word h = cond own (greeted h word) h
-helloAfter Connect own word h = h
-helloAfter Interfaces own word h = h
-helloAfter Endpoints own word h = h
-helloAfter Disconnect own word h = h
-helloAfter Reset own word h = h
-helloAfter Ack own word h = h
-helloAfter Cancel own word h = h
-helloAfter Filter own word h = h
-helloAfter StartRequest own word h = h
-helloAfter PlainRequest own word h = h
-helloAfter StreamStatus own word h = h
-helloAfter PlainReply own word h = h
-helloAfter StreamData own word h = h
+helloAfter c own word h = cond (isHello c && own) (greeted h word) h
 
 -- ---- the device
 
@@ -156,4 +159,4 @@ abbrev pub judgedBy : Session → Event → Match → ℕ → Judged
 judgedBy s e m n = cond (eqb n 0) (record { session = nextFor s e m; number = 0 }) (record { session = s; number = n })
 
 unfoldable pub judged : Session → Event → Judged
-judged s e = judgedBy s e (matchOf (s .requests) e) (numberFor s e (matchOf (s .requests) e))
+judged s e = judgedBy s e (matchOf (s .requests) e) (numberFor (s .device) (s .requests) e (matchOf (s .requests) e))

@@ -20,10 +20,9 @@ use Rattle.events.specs.declared.Class.the-variants.{Hello, Connect, Interfaces
 use Rattle.events.specs.declared.Typed.{Typed}
 use Rattle.events.specs.declared.Typed.the-variants.{Untyped, Row, Mask}
 use Rattle.events.specs.declared.Event.{Event}
-use Rattle.session.specs.declared.Traits.{Traits}
-use Rattle.session.specs.declared.Match.{Match}
-use Rattle.session.specs.declared.Match.the-variants.{Unmatched, Matched}
-use Rattle.session.specs.declared.Session.{Session}
+use Rattle.checks.specs.declared.Traits.{Traits}
+use Rattle.checks.specs.declared.Match.{Match}
+use Rattle.checks.specs.declared.Match.the-variants.{Unmatched, Matched}
 
 -- ---- what the checks ask of a class
 
@@ -183,22 +182,22 @@ abbrev pub firstOf : List Check → ℕ
 firstOf [] = 0
 firstOf (c ∷ cs) = cond (c .holds) (c .number) (firstOf cs)
 
-abbrev pub checks : Session → Event → Match → List Check
-checks s e m =
-    25 when noDevice (s .device) e
-    ∷ 27 when ackOwed (s .device) e
-    ∷ 26 when outOfOrder (s .device) (e .class)
-    ∷ 28 when wrongType (s .device .rows) e
-    ∷ 29 when settling (s .requests) e
-    ∷ 30 when streamClosed (s .device .rows) e
-    ∷ 31 when idInUse (s .requests) e
-    ∷ 32 when isFull (s .requests) e
+abbrev pub checks : Device → Requests → Event → Match → List Check
+checks d t e m =
+    25 when noDevice d e
+    ∷ 27 when ackOwed d e
+    ∷ 26 when outOfOrder d (e .class)
+    ∷ 28 when wrongType (d .rows) e
+    ∷ 29 when settling t e
+    ∷ 30 when streamClosed (d .rows) e
+    ∷ 31 when idInUse t e
+    ∷ 32 when isFull t e
     ∷ 33 when noSuchRequest e m
     ∷ 34 when tooLong e m
     ∷ []
 
-unfoldable pub numberFor : Session → Event → Match → ℕ
-numberFor s e m = firstOf (checks s e m)
+unfoldable pub numberFor : Device → Requests → Event → Match → ℕ
+numberFor d t e m = firstOf (checks d t e m)
 
-unfoldable pub numberOf : Session → Event → ℕ
-numberOf s e = numberFor s e (matchOf (s .requests) e)
+unfoldable pub numberOf : Device → Requests → Event → ℕ
+numberOf d t e = numberFor d t e (matchOf t e)
