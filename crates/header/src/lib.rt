@@ -51,7 +51,7 @@ pub fn shared_set(l: Link) -> u32
     offer(guest) & offer(host)
 }
 
-fn has_passed(h: Hello) -> bool
+pub fn has_passed(h: Hello) -> bool
     ensures { λ r. ⌜ r ≡ passed h ⌝ }
 {
     match h {

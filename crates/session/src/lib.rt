@@ -1,5 +1,7 @@
 // The session: its record, and the judge, which gives a packet its number and moves the session where the packet passes.
 ghost use mathlib.Core.Path.{_≡_};
+ghost use Rattle.device.specs.Device.{closed};
+ghost use Rattle.requests.specs.Requests.{released};
 ghost use Rattle.session.specs.Session.{freshSession, linkOf, isShared, heldBad, unfit};
 ghost use Rattle.session.specs.Step.{greeted, isHello, helloAfter, withRows, connected, introduced, acknowledged, streamBy, opens, scopeOf, replyRows, deviceAfter, asked, answered, requestsAfter, nextFor, judged};
 use checks::Match;
@@ -21,6 +23,7 @@ use events::Typed;
 use header::Hello;
 use header::Link;
 use header::Side;
+use header::has_passed;
 use header::shared_set;
 use kinds::is_guest;
 use number::has_bit;
@@ -93,15 +96,6 @@ fn is_shared(s: Session, bit: u32) -> bool
     ensures { λ r. ⌜ r ≡ isShared s bit ⌝ }
 {
     has_bit(shared_set(link_of(s, Side::Guest)), bit)
-}
-
-fn has_passed(h: Hello) -> bool
-    ensures { λ r. ⌜ r ≡ Rattle.header.specs.Link.passed h ⌝ }
-{
-    match h {
-        Hello::Awaited => false,
-        Hello::Passed(_) => true,
-    }
 }
 
 fn is_held_bad(own: Hello, other: Hello, n: usize) -> bool
@@ -246,12 +240,23 @@ fn scope_of(e: Event, m: Match) -> Scope
     }
 }
 
+// Most replies end nothing: then no row is gone through.
+fn close_streams(rows: Rows, s: Scope) -> Rows
+    ensures { λ r. ⌜ r ≡ closed rows s ⌝ }
+{
+    match s {
+        Scope::Nowhere => rows,
+        Scope::Everywhere => close(rows, s),
+        Scope::OfInterface(_) => close(rows, s),
+    }
+}
+
 fn reply_rows(rows: Rows, e: Event, m: Match) -> Rows
     ensures { λ r. ⌜ r ≡ replyRows rows e m ⌝ }
 {
     let typed = e.typed;
     let moved = stream_by(rows, typed, is_opening(e, m));
-    close(moved, scope_of(e, m))
+    close_streams(moved, scope_of(e, m))
 }
 
 // The device after a packet that passed.
@@ -292,6 +297,17 @@ fn ask(t: Requests, r: Request) -> Requests
     }
 }
 
+// Most replies end no request but their own: then no place is gone through.
+fn release_data(t: Requests, rows: Rows, s: Scope) -> Requests
+    ensures { λ r. ⌜ r ≡ released t rows s ⌝ }
+{
+    match s {
+        Scope::Nowhere => t,
+        Scope::Everywhere => release(t, rows, s),
+        Scope::OfInterface(_) => release(t, rows, s),
+    }
+}
+
 // A reply frees the place of its request, and the data requests in its scope.
 fn answer(t: Requests, rows: Rows, e: Event, m: Match) -> Requests
     ensures { λ r. ⌜ r ≡ answered t rows e m ⌝ }
@@ -299,7 +315,7 @@ fn answer(t: Requests, rows: Rows, e: Event, m: Match) -> Requests
     let s = scope_of(e, m);
     match m {
         Match::Unmatched => t,
-        Match::Matched(i, _) => release(free(t, i), rows, s),
+        Match::Matched(i, _) => release_data(free(t, i), rows, s),
     }
 }
 
