@@ -9,6 +9,7 @@ use mathlib.Core.Path.{_≡_}
 use lib.ListN.{getD}
 use lib.Dec.{eqb}
 use Rattle.number.specs.Little.{le}
+use Rattle.endpoint.specs.Endpoint.{isIn}
 use Rattle.header.specs.declared.Side.{Side}
 use Rattle.kinds.specs.Table.{Field}
 use Rattle.kinds.specs.Content.{Value, Content, named}
@@ -31,7 +32,7 @@ abbrev pub field : String → Content → ℕ
 field n p = named n (layout (p .kind)) (p .fields)
 
 unfoldable pub meaningOf : Side → Content → Meaning
-meaningOf from p = lookUp meanings from (p .kind) (field "endpoint" p)
+meaningOf from p = lookUp meanings from (p .kind) (isIn (record { 0 = field "endpoint" p }))
 
 -- "endpoint or interface byte, .. 0 for what the kind lacks"
 abbrev pub targetOf : About → Content → ℕ

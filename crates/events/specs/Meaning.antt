@@ -5,7 +5,6 @@ use mathlib.Core.Bool.{Bool, true, false, cond, not, _&&_}
 use mathlib.Core.List.{List, [], _∷_}
 use mathlib.Core.Option.{Option, none, some}
 use lib.Dec.{eqb}
-use Rattle.endpoint.specs.Endpoint.{isIn}
 use Rattle.header.specs.declared.Side.{Side}
 use Rattle.kinds.specs.Number.{isGuest}
 use Rattle.device.specs.Device.{control, iso, bulk, interrupt}
@@ -114,15 +113,15 @@ meanings =
     ∷ line 104 sender (streams bulk)
     ∷ []
 
--- ---- the line of a packet, by its kind, its sender and its endpoint byte
+-- ---- the line of a packet, by its kind, its sender and whether its endpoint is IN
 
-abbrev pub admits : Who → Side → ℕ → Bool
-admits sender from e = true
-admits guest from e = isGuest from
-admits host from e = not (isGuest from)
-admits host-in from e = not (isGuest from) && isIn (record { 0 = e })
-admits host-out from e = not (isGuest from) && not (isIn (record { 0 = e }))
+abbrev pub admits : Who → Side → Bool → Bool
+admits sender from inward = true
+admits guest from inward = isGuest from
+admits host from inward = not (isGuest from)
+admits host-in from inward = not (isGuest from) && inward
+admits host-out from inward = not (isGuest from) && not inward
 
-abbrev pub lookUp : List Line → Side → ℕ → ℕ → Meaning
-lookUp [] from kind e = plain Cancel
-lookUp (l ∷ ls) from kind e = cond (eqb kind (l .kind) && admits (l .who) from e) (l .meaning) (lookUp ls from kind e)
+abbrev pub lookUp : List Line → Side → ℕ → Bool → Meaning
+lookUp [] from kind inward = plain Cancel
+lookUp (l ∷ ls) from kind inward = cond (eqb kind (l .kind) && admits (l .who) from inward) (l .meaning) (lookUp ls from kind inward)

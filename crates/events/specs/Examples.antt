@@ -1,0 +1,187 @@
+-- The table of meanings against the lists of document 01, "Session rules", each by computation.
+-- Assumes nothing.
+use Prim.Native.Nat.{ℕ, _+_}
+use mathlib.Core.Path.{_≡_, refl}
+use mathlib.Core.Bool.{Bool, true, false, cond, not, _&&_, _||_}
+use mathlib.Core.List.{List, [], _∷_}
+use mathlib.Core.Option.{Option, none, some}
+use lib.Dec.{eqb}
+use Rattle.header.specs.declared.Side.{Side}
+use Rattle.header.specs.declared.Side.the-variants.{Guest, Host}
+use Rattle.kinds.specs.Table.{Kind, kinds}
+use Rattle.kinds.specs.Number.{sends, isNone}
+use Rattle.device.specs.Device.{control, iso, bulk, interrupt, invalid}
+use Rattle.events.specs.declared.Class.{Class}
+use Rattle.events.specs.declared.Class.the-variants.{Hello, Connect, Interfaces, Endpoints, Disconnect, Reset, Ack, Cancel, Filter, StartRequest, PlainRequest, StreamStatus, PlainReply, StreamData}
+use Rattle.events.specs.Meaning.{Who, sender, guest, host, host-in, host-out, Line, meanings, admits, lookUp}
+
+-- ---- lines by their class
+
+-- a number for each class, to compare them by
+abbrev tag : Class → ℕ
+tag Hello = 0
+tag Connect = 1
+tag Interfaces = 2
+tag Endpoints = 3
+tag Disconnect = 4
+tag Reset = 5
+tag Ack = 6
+tag Cancel = 7
+tag Filter = 8
+tag StartRequest = 9
+tag PlainRequest = 10
+tag StreamStatus = 11
+tag PlainReply = 12
+tag StreamData = 13
+
+-- a class is one of these
+abbrev among : List Class → Class → Bool
+among [] c = false
+among (d ∷ ds) c = eqb (tag c) (tag d) || among ds c
+
+-- what is shown of each line that passes the test
+abbrev shown : {A : Type 0} → (Line → Bool) → (Line → A) → List Line → List A
+shown p f [] = []
+shown p f (l ∷ ls) = cond (p l) (f l ∷ shown p f ls) (shown p f ls)
+
+-- a line's class is one of these
+abbrev classed : List Class → Line → Bool
+classed cs l = among cs (l .meaning .class)
+
+-- the kinds of the lines of these classes
+abbrev kindsOf : List Class → List ℕ
+kindsOf cs = shown (classed cs) (λ (l : Line). l .kind) meanings
+
+abbrev requests : List Class
+requests = StartRequest ∷ PlainRequest ∷ []
+
+abbrev replies : List Class
+replies = StreamStatus ∷ PlainReply ∷ []
+
+-- "Guest kinds 6, 7, 9, 10, 12, 13, 15, 16, 18, 19, 25, 26, 100, 101, 103 take the lowest free place"
+abbrev requestKinds : List ℕ
+requestKinds = 6 ∷ 7 ∷ 9 ∷ 10 ∷ 12 ∷ 13 ∷ 15 ∷ 16 ∷ 18 ∷ 19 ∷ 25 ∷ 26 ∷ 100 ∷ 101 ∷ 103 ∷ []
+
+-- "All kinds but 0, 1, 4, 5, 22, 23, 24 get 25 without a device."
+pub no-device-kinds : kindsOf (Hello ∷ Connect ∷ Interfaces ∷ Endpoints ∷ Filter ∷ Ack ∷ []) ≡ (0 ∷ 1 ∷ 4 ∷ 5 ∷ 22 ∷ 23 ∷ 24 ∷ [])
+unfolding meanings
+no-device-kinds = refl
+
+pub request-kinds : kindsOf requests ≡ requestKinds
+unfolding meanings
+request-kinds = refl
+
+-- "a passed start opens": 12 start iso, 15 start interrupt, 25 start bulk receiving
+pub start-kinds : kindsOf (StartRequest ∷ []) ≡ (12 ∷ 15 ∷ 25 ∷ [])
+unfolding meanings
+start-kinds = refl
+
+-- "Kinds 14, 17, 27 with id 0 and status 4 that match nothing pass as unsolicited."
+pub status-kinds : kindsOf (StreamStatus ∷ []) ≡ (14 ∷ 17 ∷ 27 ∷ [])
+unfolding meanings
+status-kinds = refl
+
+-- "30: kind 102, host 103 IN and 104 on a closed stream."
+pub stream-kinds : kindsOf (StreamData ∷ []) ≡ (102 ∷ 103 ∷ 104 ∷ [])
+unfolding meanings
+stream-kinds = refl
+
+-- ---- what a line answers and wants
+
+-- a line's kind and the two kinds of request that it answers
+abbrev pairOf : Line → ℕ × ℕ × ℕ
+pairOf l = (l .kind, l .meaning .first, l .meaning .second)
+
+-- a line names a kind of request that it answers
+abbrev answering : Line → Bool
+answering l = not (eqb (l .meaning .first) 0 && eqb (l .meaning .second) 0)
+
+-- "Replies: 8 to 6 or 7; 11 to 9 or 10; 14 to 12 or 13; 17 to 15 or 16; 20 to 18 or 19; 27 to 25 or 26;
+-- host 100, 101, and 103 OUT to their own kind."
+abbrev replyPairs : List (ℕ × ℕ × ℕ)
+replyPairs = (8, 6, 7) ∷ (11, 9, 10) ∷ (14, 12, 13) ∷ (17, 15, 16) ∷ (20, 18, 19) ∷ (27, 25, 26) ∷ (100, 100, 100) ∷ (101, 101, 101) ∷ (103, 103, 103) ∷ []
+
+-- the lines that answer are those of the two classes of replies
+pub pairs : (shown answering pairOf meanings ≡ replyPairs) × (shown (classed replies) pairOf meanings ≡ replyPairs)
+unfolding meanings
+pairs = (refl, refl)
+
+-- a line wants a type
+abbrev typed : Line → Bool
+typed l = not (isNone (l .meaning .wants))
+
+abbrev orInvalid : Option ℕ → ℕ
+orInvalid none = invalid
+orInvalid (some k) = k
+
+-- a line's kind, whose packets it is about, and the type that it wants
+abbrev typeOf : Line → ℕ × Who × ℕ
+typeOf l = (l .kind, l .who, orInvalid (l .meaning .wants))
+
+-- "28: kinds 12, 13 and 102 want iso, 15, 16 and guest 103 interrupt, 18, 19 .., 25, 26, guest 101 and 104 bulk, guest 100 control;
+-- host 103 IN wants interrupt"; and 14, 17, 27 move a stream "only where the row's type is that kind's"
+pub typed-kinds : shown typed typeOf meanings
+    ≡ ((12, sender, iso) ∷ (13, sender, iso) ∷ (14, sender, iso)
+    ∷ (15, sender, interrupt) ∷ (16, sender, interrupt) ∷ (17, sender, interrupt)
+    ∷ (18, sender, bulk) ∷ (19, sender, bulk)
+    ∷ (25, sender, bulk) ∷ (26, sender, bulk) ∷ (27, sender, bulk)
+    ∷ (100, guest, control) ∷ (101, guest, bulk) ∷ (102, sender, iso)
+    ∷ (103, guest, interrupt) ∷ (103, host-in, interrupt) ∷ (104, sender, bulk) ∷ [])
+unfolding meanings
+typed-kinds = refl
+
+-- ---- the line of a packet
+
+-- how many lines admit packets of a kind, from a sender, on an IN endpoint or not
+abbrev admitting : List Line → Side → ℕ → Bool → ℕ
+admitting [] from n inward = 0
+admitting (l ∷ ls) from n inward = cond (eqb n (l .kind) && admits (l .who) from inward) 1 0 + admitting ls from n inward
+
+-- one line admits each kind that the sender may send
+abbrev once : List Kind → Side → Bool → Bool
+once [] from inward = true
+once (k ∷ ks) from inward = (not (sends (k .sender) from) || eqb (admitting meanings from (k .number) inward) 1) && once ks from inward
+
+-- a number is a kind's
+abbrev isKind : List Kind → ℕ → Bool
+isKind [] n = false
+isKind (k ∷ ks) n = eqb n (k .number) || isKind ks n
+
+-- every line's kind is one of the table of kinds
+abbrev listed : List Line → Bool
+listed [] = true
+listed (l ∷ ls) = isKind kinds (l .kind) && listed ls
+
+-- whoever sends, on an endpoint of either direction
+pub one-line : (from : Side) (inward : Bool) → once kinds from inward ≡ true
+unfolding kinds meanings
+one-line Guest true = refl
+one-line Guest false = refl
+one-line Host true = refl
+one-line Host false = refl
+
+pub all-listed : listed meanings ≡ true
+unfolding kinds meanings
+all-listed = refl
+
+-- the kinds that a side sends as one of these classes, on an IN endpoint or not
+abbrev sentAs : List Class → Side → Bool → List Kind → List ℕ
+sentAs cs from inward [] = []
+sentAs cs from inward (k ∷ ks) =
+    cond (sends (k .sender) from && among cs (lookUp meanings from (k .number) inward .class)) (k .number ∷ sentAs cs from inward ks) (sentAs cs from inward ks)
+
+-- on an OUT endpoint and on an IN one: the guest makes the requests; the host sends the replies, and 103 IN as stream data
+pub by-sender : (sentAs requests Guest false kinds ≡ requestKinds)
+    × (sentAs requests Guest true kinds ≡ requestKinds)
+    × (sentAs requests Host false kinds ≡ [])
+    × (sentAs requests Host true kinds ≡ [])
+    × (sentAs replies Guest false kinds ≡ [])
+    × (sentAs replies Guest true kinds ≡ [])
+    × (sentAs replies Host false kinds ≡ (8 ∷ 11 ∷ 14 ∷ 17 ∷ 20 ∷ 27 ∷ 100 ∷ 101 ∷ 103 ∷ []))
+    × (sentAs replies Host true kinds ≡ (8 ∷ 11 ∷ 14 ∷ 17 ∷ 20 ∷ 27 ∷ 100 ∷ 101 ∷ []))
+    × (sentAs (StreamData ∷ []) Guest false kinds ≡ (102 ∷ []))
+    × (sentAs (StreamData ∷ []) Guest true kinds ≡ (102 ∷ []))
+    × (sentAs (StreamData ∷ []) Host false kinds ≡ (102 ∷ 104 ∷ []))
+    × (sentAs (StreamData ∷ []) Host true kinds ≡ (102 ∷ 103 ∷ 104 ∷ []))
+unfolding kinds meanings
+by-sender = (refl, refl, refl, refl, refl, refl, refl, refl, refl, refl, refl, refl)
