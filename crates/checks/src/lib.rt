@@ -1,18 +1,17 @@
 // The session checks 25 to 34: each a function of its own, and the number, which is the first of them that holds.
 ghost use mathlib.Core.Path.{_≡_};
-ghost use Rattle.checks.specs.Checks.{traitsOf, noDevice, ackOwed, isBegun, isDone, outOfOrder, mistypedBy, wrongType, isTransfer, settling, isOpen, streamClosed, idInUse, isFull, matchOf, isUnmatched, isUnsolicited, noSuchRequest, tooLong, numberFor};
+ghost use Rattle.requests.specs.Requests.{told};
+ghost use Rattle.checks.specs.Checks.{traitsOf, isSome, noDevice, ackOwed, isBegun, isDone, outOfOrder, mistypedBy, wrongType, isTransfer, settling, isOpen, streamClosed, idInUse, isFull, matchOf, isUnmatched, isUnsolicited, noSuchRequest, tooLong, numberFor};
 use device::Device;
 use device::Introduction;
 use device::Rows;
 use device::mask_mistyped;
 use device::state_at;
-use endpoint::Endpoint;
 use events::Class;
 use events::Event;
 use events::Typed;
 use kinds::is_guest;
 use requests::Found;
-use requests::Place;
 use requests::Query;
 use requests::Request;
 use requests::Requests;
@@ -179,7 +178,7 @@ fn is_transfer(e: Event) -> bool
 }
 
 fn is_found(f: Found) -> bool
-    ensures { λ r. ⌜ r ≡ Rattle.checks.specs.Checks.isSome (Rattle.requests.specs.Requests.told f) ⌝ }
+    ensures { λ r. ⌜ r ≡ isSome (told f) ⌝ }
 {
     match f {
         Found::At(_) => true,
