@@ -11,10 +11,11 @@ use Rattle.endpoint.specs.declared.Endpoint.{Endpoint}
 use Rattle.endpoint.specs.declared.RowOf.{RowOf}
 use Rattle.endpoint.specs.declared.RowOf.the-variants.{At, Malformed}
 use Rattle.endpoint.specs.Endpoint.{rowOf}
-use Rattle.scan.specs.Laws.{each-length, each-at, each-keeps, set-keeps}
+use Rattle.scan.specs.Laws.{each-length, each-at, each-keeps, each-same, set-keeps}
 use Rattle.device.specs.declared.RowState.{RowState}
 use Rattle.device.specs.declared.Rows.{Rows}
 use Rattle.device.specs.declared.Scope.{Scope}
+use Rattle.device.specs.declared.Scope.the-variants.{Nowhere}
 use Rattle.device.specs.Device.{control, closedRow, startRows, replaced, withStream, streamIn, streamTo, touches, shut, closed, controlRows}
 
 -- rows of the same types are alike in their control rows
@@ -83,3 +84,9 @@ replaced-kind new d k h = ap (λ (r : RowState). r .kind) (each-at _ (d .rows) 0
 
 pub replaced-control : (new d : Rows) → length (d .rows) ≡ 32 → controlRows new ≡ true → controlRows (replaced new d) ≡ true
 replaced-control new d n c = same-control (replaced new d) new (replaced-kind new d 0 (omega arith)) (replaced-kind new d 16 (omega arith)) ∙ c
+
+-- ---- a scope of no row
+
+pub closed-nowhere : (d : Rows) → closed d Nowhere ≡ d
+unfolding closed
+closed-nowhere d = λ j. record { rows = each-same (shut Nowhere) (λ i r. refl) (d .rows) 0 j }

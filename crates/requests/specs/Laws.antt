@@ -2,7 +2,7 @@
 -- Assumes nothing.
 use Prim.Native.Nat.{ℕ, zero, suc, _<_}
 use mathlib.Core.Path.{_≡_, refl, sym, ap, _∙_}
-use mathlib.Core.Bool.{Bool, true, false, cond, not, _&&_, true≢false, false≢true}
+use mathlib.Core.Bool.{Bool, true, false, cond, not, _&&_, true≢false, false≢true, and-false}
 use mathlib.Core.List.{List, [], _∷_}
 use mathlib.Core.Option.{none}
 use native.Mathlib.Omega.{arith}
@@ -13,13 +13,15 @@ use borrow.Author.Tests.{eqb-true, eq-eqb, not-true}
 use borrow.Table.Steps.{cases}
 use Rattle.device.specs.declared.Rows.{Rows}
 use Rattle.device.specs.declared.Scope.{Scope}
+use Rattle.device.specs.declared.Scope.the-variants.{Nowhere}
+use Rattle.device.specs.Device.{touched}
 use Rattle.scan.specs.Scan.{exists, eachAt}
-use Rattle.scan.specs.Laws.{first-absent, exists-at, exists-not, getD-set, each-at, each-length}
+use Rattle.scan.specs.Laws.{first-absent, exists-at, exists-not, getD-set, each-at, each-length, each-same}
 use Rattle.requests.specs.declared.Request.{Request}
 use Rattle.requests.specs.declared.Place.{Place}
 use Rattle.requests.specs.declared.Requests.{Requests}
 use Rattle.requests.specs.declared.Query.the-variants.{Id}
-use Rattle.requests.specs.Requests.{freePlace, freshRequests, taken, hasId, lowest, placeAt, withPlace, ends, keptOf, released, clashes, idsDiffer}
+use Rattle.requests.specs.Requests.{freePlace, freshRequests, isData, taken, hasId, lowest, placeAt, withPlace, ends, keptOf, released, clashes, idsDiffer}
 
 -- ---- what a change leaves
 
@@ -184,3 +186,14 @@ module _ (t : Requests) (d : idsDiffer (t .places) ≡ true) where
       apart j k x y true false u v e f q = absurd (absent k y f (sym q))
       apart j k x y false true u v e f q = absurd (absent j x e q)
       apart j k x y false false u v e f q = differ-when l d j k x y e f q
+
+-- ---- a scope of no row
+
+-- no request ends
+kept-nowhere : (rows : Rows) (i : ℕ) (p : Place) → keptOf rows Nowhere i p ≡ p
+unfolding touched
+kept-nowhere rows i p = rw (and-false (p .live && isData (p .request .kind)))
+
+pub released-nowhere : (t : Requests) (rows : Rows) → released t rows Nowhere ≡ t
+unfolding released
+released-nowhere t rows = λ j. record { places = each-same (keptOf rows Nowhere) (kept-nowhere rows) (t .places) 0 j }

@@ -132,3 +132,9 @@ module _ {A : Type 0} (f : ℕ → A → A) where
   upto-step n l t d y h e v =
       let w : y ≡ f n (getD l n d) = v ∙ ap (λ (z : List A). f n (getD z n d)) e ∙ ap (f n) (upto-at f 0 n l d) in
       (λ j. set (e j) n (w j)) ∙ upto-more f n l d h
+
+  -- where each change leaves its element as it was, the list is as it was
+  pub each-same : ((i : ℕ) (x : A) → f i x ≡ x) → (l : List A) (i : ℕ) → eachAt f i l ≡ l
+  unfolding eachAt
+  each-same h [] i = refl
+  each-same h (x ∷ xs) i = λ j. h i x j ∷ each-same h xs (suc i) j

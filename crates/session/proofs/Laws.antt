@@ -1,0 +1,58 @@
+-- What the functions of the session answer in each case, in the values that the code has.
+-- Assumes nothing.
+use Prim.Native.Nat.{ℕ}
+use mathlib.Core.Path.{_≡_, sym, ap, _∙_}
+use mathlib.Core.Bool.{false}
+use lib.Dec.{eqb}
+use Rattle.device.specs.declared.Device.{Device}
+use Rattle.device.specs.declared.Rows.{Rows}
+use Rattle.device.specs.declared.Scope.{Scope}
+use Rattle.requests.specs.declared.Request.{Request}
+use Rattle.requests.specs.declared.Requests.{Requests}
+use Rattle.requests.specs.declared.Query.the-variants.{Free}
+use Rattle.requests.specs.declared.Found.{Found}
+use Rattle.requests.specs.Requests.{freePlace, lowest, told, withPlace, released}
+use Rattle.events.specs.declared.Class.{Class}
+use Rattle.events.specs.declared.Event.{Event}
+use Rattle.checks.specs.Checks.{matchOf, numberFor}
+use Rattle.checks.specs.declared.Match.{Match}
+use Rattle.checks.specs.declared.Match.the-variants.{Matched}
+use Rattle.session.specs.declared.Session.{Session}
+use Rattle.session.specs.Step.{scopeOf, deviceAfter, takenAt, asked, answered, requestsAfter, nextFor, judgedBy, judged}
+
+-- ---- a request that takes a place: f is what the search for a free one answered, and z the same as the arm has it
+
+pub asked-by : (t : Requests) (r : Request) (f z : Found) → told f ≡ lowest t Free → f ≡ z → takenAt t r (told z) ≡ asked t r
+asked-by t r f z ends is = ap (takenAt t r) (ap told (sym is) ∙ ends)
+
+-- ---- a reply: u is the table without its request, and s the scope that it ends
+
+pub answered-by : (t : Requests) (rows : Rows) (e : Event) (m : Match) (i : ℕ) (q : Request) → m ≡ Matched i q
+    → (u : Requests) → u ≡ withPlace t i freePlace → (s : Scope) → s ≡ scopeOf e m → released u rows s ≡ answered t rows e m
+answered-by t rows e m i q is u freed s ends = (λ j. released (freed j) rows ((ends ∙ ap (scopeOf e) is) j)) ∙ ap (answered t rows e) (sym is)
+
+-- ---- the device and the requests after a packet, by its class as the arm has it
+
+module _ (s : Session) (e : Event) (m : Match) (k : Class) (is : e .class ≡ k) where
+  pub device-by : (d : Device) → d ≡ deviceAfter k s e m → d ≡ deviceAfter (e .class) s e m
+  device-by d v = v ∙ ap (λ (c : Class). deviceAfter c s e m) (sym is)
+
+  pub requests-by : (t : Requests) → t ≡ requestsAfter k s e m → t ≡ requestsAfter (e .class) s e m
+  requests-by t v = v ∙ ap (λ (c : Class). requestsAfter c s e m) (sym is)
+
+-- ---- the judge's answer: m and n are the match and the number that the checks gave
+
+module _ (s : Session) (e : Event) (m : Match) (n : ℕ) (found : m ≡ matchOf (s .requests) e) (number : n ≡ numberFor (s .device) (s .requests) e m) where
+  judged-by : judgedBy s e m n ≡ judged s e
+  unfolding judged
+  judged-by = ap (judgedBy s e m) number ∙ ap (λ (z : Match). judgedBy s e z (numberFor (s .device) (s .requests) e z)) found
+
+  pub judged-passed : n ≡ 0 → (next : Session) → next ≡ nextFor s e m → record { session = next; number = n } ≡ judged s e
+  judged-passed zero next is =
+      let here : record { session = next; number = n } ≡ judgedBy s e m n = rw (zero, is) in
+      here ∙ judged-by
+
+  pub judged-refused : eqb n 0 ≡ false → record { session = s; number = n } ≡ judged s e
+  judged-refused other =
+      let here : record { session = s; number = n } ≡ judgedBy s e m n = rw other in
+      here ∙ judged-by
