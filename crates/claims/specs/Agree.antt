@@ -1,0 +1,178 @@
+-- The table of meanings says of each kind what document 01's lists say of it.
+-- Assumes nothing.
+use Prim.Native.Nat.{ℕ}
+use mathlib.Core.Bool.{Bool, true, false, cond, not, _&&_, _||_, false≢true}
+use mathlib.Core.List.{List, [], _∷_}
+use mathlib.Core.Option.{Option, none, some, Option·some-injective, Option·none-ne-some}
+use mathlib.Core.Path.{_≡_, refl, sym, ap, subst, _∙_}
+use lib.Dec.{eqb}
+use borrow.Author.Tests.{eqb-true}
+use borrow.Table.Steps.{cases}
+use Rattle.endpoint.specs.Endpoint.{isIn}
+use Rattle.header.specs.declared.Side.{Side}
+use Rattle.header.specs.declared.Side.the-variants.{Guest, Host}
+use Rattle.kinds.specs.Table.{G, H, Kind, kinds}
+use Rattle.kinds.specs.Content.{Value, Content, find}
+use Rattle.kinds.specs.Codec.{layout}
+use Rattle.kinds.specs.Number.{isGuest, sends}
+use Rattle.device.specs.declared.Device.{Device}
+use Rattle.device.specs.Device.{bulk}
+use Rattle.requests.specs.declared.Request.{Request}
+use Rattle.requests.specs.Requests.{answers}
+use Rattle.events.specs.declared.Typed.{Typed}
+use Rattle.events.specs.declared.Typed.the-variants.{Untyped, Row, Mask}
+use Rattle.events.specs.declared.Event.{Event}
+use Rattle.events.specs.Meaning.{meanings}
+use Rattle.events.specs.Event.{field, meaningOf, eventOf}
+use Rattle.checks.specs.Checks.{traitsOf, outOfOrder, isBegun, isDone}
+use Rattle.claims.specs.Allowed.{among, isRequest, isReply, answersKind, carriesTarget, wants, onStream, endpointOf, inwardOf, replyTarget, countOf}
+
+-- what the checks go by, of an event or of a packet
+pub record Facts : Type 0 where
+  pub device : Bool
+  pub introduces : Bool
+  pub order : Device → Bool
+  pub typed : Typed
+  pub stream : Typed
+  pub streamed : Bool
+  pub request : Bool
+  pub reply : Bool
+  pub answers : Request → Bool
+  pub unsolicited : Bool
+
+abbrev pub factsOf : Event → Facts
+factsOf e =
+    record {
+      device = traitsOf (e .class) .device;
+      introduces = traitsOf (e .class) .introduces;
+      order = λ (d : Device). outOfOrder d (e .class);
+      typed = cond (traitsOf (e .class) .typed) (e .typed) Untyped;
+      stream = cond (traitsOf (e .class) .streamed) (e .typed) Untyped;
+      streamed = traitsOf (e .class) .streamed;
+      request = traitsOf (e .class) .request;
+      reply = traitsOf (e .class) .reply;
+      answers = λ (q : Request). traitsOf (e .class) .reply && answers (e .request) (e .answers) q;
+      unsolicited = traitsOf (e .class) .unsolicited;
+    }
+
+-- ---- the same by document 01's lists
+
+abbrev pub disordered : ℕ → Device → Bool
+disordered kind d =
+    cond (eqb kind 1) (d .present || not (isDone (d .introduction)))
+    (cond (eqb kind 4) (not (d .present) && not (isBegun (d .introduction))) (cond (eqb kind 24) (not (d .owed)) false))
+
+abbrev pub rowBy : Option ℕ → Content → Typed
+rowBy none p = Untyped
+rowBy (some k) p = Row (endpointOf p) k
+
+abbrev pub typedBy : Side → Content → Typed
+typedBy from p = cond (among (18 ∷ 19 ∷ []) (p .kind)) (Mask (field "mask" p) bulk) (rowBy (wants from (p .kind) (inwardOf p)) p)
+
+abbrev pub answersBy : Content → Request → Bool
+answersBy p q = eqb (q .id) (p .id) && answersKind (p .kind) (q .kind) && (not (carriesTarget (p .kind)) || eqb (q .target) (replyTarget p))
+
+abbrev pub factsBy : Side → Content → Facts
+factsBy from p =
+    record {
+      device = not (among (0 ∷ 1 ∷ 4 ∷ 5 ∷ 22 ∷ 23 ∷ 24 ∷ []) (p .kind));
+      introduces = among (1 ∷ 4 ∷ 5 ∷ []) (p .kind);
+      order = disordered (p .kind);
+      typed = typedBy from p;
+      stream = cond (onStream from (p .kind) (inwardOf p)) (rowBy (wants from (p .kind) (inwardOf p)) p) Untyped;
+      streamed = onStream from (p .kind) (inwardOf p);
+      request = isRequest from (p .kind);
+      reply = isReply from (p .kind) (inwardOf p);
+      answers = λ (q : Request). isReply from (p .kind) (inwardOf p) && answersBy p q;
+      unsolicited = among (14 ∷ 17 ∷ 27 ∷ []) (p .kind);
+    }
+
+-- ---- for each kind of the table, from whoever may send it
+
+abbrev packetOf : ℕ → ℕ → List Value → List ℕ → Content
+packetOf n id vs rest = record { kind = n; id = id; fields = vs; rest = rest }
+
+-- the two agree for packets of a kind from one side
+abbrev Agree : Side → ℕ → Type 0
+Agree from n = (id : ℕ) (vs : List Value) (rest : List ℕ) → factsOf (eventOf from (packetOf n id vs rest)) ≡ factsBy from (packetOf n id vs rest)
+
+abbrev AgreeFor : Kind → Type 0
+AgreeFor k = (from : Side) → sends (k .sender) from ≡ true → Agree from (k .number)
+
+abbrev Every : List Kind → Type 0
+Every [] = Unit {0}
+Every (k ∷ ks) = AgreeFor k × Every ks
+
+by-guest : (n : ℕ) → Agree Guest n → (from : Side) → sends G from ≡ true → Agree from n
+by-guest n a Guest h = a
+by-guest n a Host h = absurd (false≢true h)
+
+by-host : (n : ℕ) → Agree Host n → (from : Side) → sends H from ≡ true → Agree from n
+by-host n a Guest h = absurd (false≢true h)
+by-host n a Host h = a
+
+by-both : (n : ℕ) → Agree Guest n → Agree Host n → (from : Side) → true ≡ true → Agree from n
+by-both n a b Guest h = a
+by-both n a b Host h = b
+
+infixr 40 _also_
+_also_ : {A B : Type 0} → A → B → A × B
+a also b = (a, b)
+
+interrupt-agrees : Agree Host 103
+unfolding meaningOf eventOf meanings layout kinds
+interrupt-agrees id vs rest = cases (inwardOf (packetOf 103 id vs rest)) (λ t. rw t) (λ t. rw t)
+
+every-kind : Every kinds
+unfolding meaningOf eventOf meanings layout kinds
+every-kind =
+    by-both 0 (λ id vs rest. refl) (λ id vs rest. refl)
+    also by-host 1 (λ id vs rest. refl)
+    also by-host 2 (λ id vs rest. refl)
+    also by-guest 3 (λ id vs rest. refl)
+    also by-host 4 (λ id vs rest. refl)
+    also by-host 5 (λ id vs rest. refl)
+    also by-guest 6 (λ id vs rest. refl)
+    also by-guest 7 (λ id vs rest. refl)
+    also by-host 8 (λ id vs rest. refl)
+    also by-guest 9 (λ id vs rest. refl)
+    also by-guest 10 (λ id vs rest. refl)
+    also by-host 11 (λ id vs rest. refl)
+    also by-guest 12 (λ id vs rest. refl)
+    also by-guest 13 (λ id vs rest. refl)
+    also by-host 14 (λ id vs rest. refl)
+    also by-guest 15 (λ id vs rest. refl)
+    also by-guest 16 (λ id vs rest. refl)
+    also by-host 17 (λ id vs rest. refl)
+    also by-guest 18 (λ id vs rest. refl)
+    also by-guest 19 (λ id vs rest. refl)
+    also by-host 20 (λ id vs rest. refl)
+    also by-guest 21 (λ id vs rest. refl)
+    also by-guest 22 (λ id vs rest. refl)
+    also by-both 23 (λ id vs rest. refl) (λ id vs rest. refl)
+    also by-guest 24 (λ id vs rest. refl)
+    also by-guest 25 (λ id vs rest. refl)
+    also by-guest 26 (λ id vs rest. refl)
+    also by-host 27 (λ id vs rest. refl)
+    also by-both 100 (λ id vs rest. refl) (λ id vs rest. refl)
+    also by-both 101 (λ id vs rest. refl) (λ id vs rest. refl)
+    also by-both 102 (λ id vs rest. refl) (λ id vs rest. refl)
+    also by-both 103 (λ id vs rest. refl) interrupt-agrees
+    also by-host 104 (λ id vs rest. refl)
+    also tt
+
+-- a kind that is found is the one with that number, and the two agree for it
+found-kind : (ks : List Kind) (n : ℕ) (k : Kind) → find n ks ≡ some k → Every ks → (n ≡ k .number) × AgreeFor k
+found-kind [] n k e a = absurd (Option·none-ne-some k e)
+found-kind (x ∷ ks) n k e a = cases (eqb n (x .number)) here (λ t. found-kind ks n k (sym (rw t) ∙ e) (a .1))
+  where
+    here : eqb n (x .number) ≡ true → (n ≡ k .number) × AgreeFor k
+    here t =
+        let q : x ≡ k = Option·some-injective x k (sym (rw t) ∙ e) in
+        (eqb-true n (x .number) t ∙ ap (λ (y : Kind). y .number) q, subst AgreeFor q (a .0))
+
+-- the two agree for every packet of a known kind from an end that may send it
+pub agrees : (from : Side) (p : Content) (k : Kind) → find (p .kind) kinds ≡ some k → sends (k .sender) from ≡ true → factsOf (eventOf from p) ≡ factsBy from p
+agrees from p k e h =
+    let f = found-kind kinds (p .kind) k e every-kind in
+    subst (λ (n : ℕ). factsOf (eventOf from (packetOf n (p .id) (p .fields) (p .rest))) ≡ factsBy from (packetOf n (p .id) (p .fields) (p .rest))) (sym (f .0)) (f .1 from h (p .id) (p .fields) (p .rest))

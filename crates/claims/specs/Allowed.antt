@@ -1,0 +1,131 @@
+-- When a packet passes the session checks: in relations over the session and what the packet says, by kind numbers and in the words of
+-- document 01. It does not go by the classes of `events` nor run the checks; `Passes` shows that the judge passes a packet exactly then.
+-- Assumes nothing: these are definitions.
+use Prim.Native.Nat.{ℕ, _≤_, _<_}
+use mathlib.Core.Bool.{Bool, true, false, cond, not, _&&_, _||_}
+use mathlib.Core.List.{List, [], _∷_}
+use mathlib.Core.Logic.{_⊎_}
+use mathlib.Core.Option.{Option, none, some}
+use mathlib.Core.Path.{_≡_}
+use lib.ListN.{length, getD}
+use lib.Dec.{eqb}
+use Rattle.number.specs.Bits.{hasBit}
+use Rattle.endpoint.specs.declared.Endpoint.{Endpoint}
+use Rattle.endpoint.specs.Endpoint.{isIn}
+use Rattle.header.specs.declared.Side.{Side}
+use Rattle.kinds.specs.Content.{Content}
+use Rattle.kinds.specs.Codec.{layout}
+use Rattle.kinds.specs.Number.{isGuest, dataLength}
+use Rattle.device.specs.declared.Introduction.the-variants.{Nothing, Two}
+use Rattle.device.specs.declared.Rows.{Rows}
+use Rattle.device.specs.Device.{control, iso, bulk, interrupt, closedRow, stateAt}
+use Rattle.requests.specs.declared.Request.{Request}
+use Rattle.requests.specs.declared.Requests.{Requests}
+use Rattle.requests.specs.Requests.{placeAt}
+use Rattle.events.specs.Event.{field}
+use Rattle.session.specs.declared.Session.{Session}
+
+-- ---- kinds, by their numbers
+
+abbrev pub among : List ℕ → ℕ → Bool
+among [] n = false
+among (k ∷ ks) n = eqb n k || among ks n
+
+-- a host's packet of kind 103 on an IN or OUT endpoint
+abbrev pub hostInterrupt : Side → ℕ → Bool → Bool
+hostInterrupt from kind direction = not (isGuest from) && eqb kind 103 && direction
+
+-- "Guest kinds 6, 7, 9, 10, 12, 13, 15, 16, 18, 19, 25, 26, 100, 101, 103 take the lowest free place"
+abbrev pub isRequest : Side → ℕ → Bool
+isRequest from kind = isGuest from && among (6 ∷ 7 ∷ 9 ∷ 10 ∷ 12 ∷ 13 ∷ 15 ∷ 16 ∷ 18 ∷ 19 ∷ 25 ∷ 26 ∷ 100 ∷ 101 ∷ 103 ∷ []) kind
+
+-- "Replies: 8 ..; 11 ..; 14 ..; 17 ..; 20 ..; 27 ..; host 100, 101, and 103 OUT"
+abbrev pub isReply : Side → ℕ → Bool → Bool
+isReply from kind inward =
+    among (8 ∷ 11 ∷ 14 ∷ 17 ∷ 20 ∷ 27 ∷ []) kind || (not (isGuest from) && among (100 ∷ 101 ∷ []) kind) || hostInterrupt from kind (not inward)
+
+-- "8 to 6 or 7; 11 to 9 or 10; 14 to 12 or 13; 17 to 15 or 16; 20 to 18 or 19; 27 to 25 or 26; .. to their own kind"
+abbrev pub oneOf : ℕ → ℕ → ℕ → Bool
+oneOf m n kind = eqb kind m || eqb kind n
+
+abbrev pub answersKind : ℕ → ℕ → Bool
+answersKind kind =
+    cond (eqb kind 8) (oneOf 6 7)
+    (cond (eqb kind 11) (oneOf 9 10)
+    (cond (eqb kind 14) (oneOf 12 13)
+    (cond (eqb kind 17) (oneOf 15 16)
+    (cond (eqb kind 20) (oneOf 18 19)
+    (cond (eqb kind 27) (oneOf 25 26) (oneOf kind kind))))))
+
+-- "where both carry one, the endpoint or interface": all replies but 8 and 20
+abbrev pub carriesTarget : ℕ → Bool
+carriesTarget kind = not (among (8 ∷ 20 ∷ []) kind)
+
+-- 28: "kinds 12, 13 and 102 want iso, 15, 16 and guest 103 interrupt, .. 25, 26, guest 101 and 104 bulk, guest 100 control;
+-- host 103 IN wants interrupt."
+abbrev pub wants : Side → ℕ → Bool → Option ℕ
+wants from kind inward =
+    cond (among (12 ∷ 13 ∷ 102 ∷ []) kind) (some iso)
+    (cond (among (15 ∷ 16 ∷ []) kind || (isGuest from && eqb kind 103) || hostInterrupt from kind inward) (some interrupt)
+    (cond (among (25 ∷ 26 ∷ 104 ∷ []) kind || (isGuest from && eqb kind 101)) (some bulk)
+    (cond (isGuest from && eqb kind 100) (some control) none)))
+
+-- 30: "kind 102, host 103 IN and 104"
+abbrev pub onStream : Side → ℕ → Bool → Bool
+onStream from kind inward = among (102 ∷ 104 ∷ []) kind || hostInterrupt from kind inward
+
+-- ---- what a packet names
+
+abbrev pub endpointOf : Content → Endpoint
+endpointOf p = record { 0 = field "endpoint" p }
+
+abbrev pub inwardOf : Content → Bool
+inwardOf p = isIn (endpointOf p)
+
+-- the endpoint or interface byte of a reply: an interface in 11
+abbrev pub replyTarget : Content → ℕ
+replyTarget p = cond (eqb (p .kind) 11) (field "interface" p) (field "endpoint" p)
+
+abbrev pub countOf : Content → ℕ
+countOf p = dataLength (layout (p .kind)) (p .fields)
+
+-- ---- the request that a reply answers
+
+-- the live request at place i has the reply's id, a kind that it answers and, where both carry one, its endpoint or interface
+pub record Answers (t : Requests) (p : Content) (i : ℕ) : Type 0 where
+  pub place : i < length (t .places)
+  pub live : placeAt t i .live ≡ true
+  pub id : placeAt t i .request .id ≡ p .id
+  pub kind : answersKind (p .kind) (placeAt t i .request .kind) ≡ true
+  pub target : carriesTarget (p .kind) ≡ true → placeAt t i .request .target ≡ replyTarget p
+
+-- "Kinds 14, 17, 27 with id 0 and status 4 that match nothing pass as unsolicited."
+pub record Unsolicited (t : Requests) (p : Content) : Type 0 where
+  pub kind : among (14 ∷ 17 ∷ 27 ∷ []) (p .kind) ≡ true
+  pub id : p .id ≡ 0
+  pub status : field "status" p ≡ 4
+  pub unmatched : (i : ℕ) → Answers t p i → ⊥
+
+-- ---- the packet is allowed
+
+pub record Allowed (s : Session) (from : Side) (p : Content) : Type 0 where
+  -- 25: "All kinds but 0, 1, 4, 5, 22, 23, 24 get 25 without a device."
+  pub device : among (0 ∷ 1 ∷ 4 ∷ 5 ∷ 22 ∷ 23 ∷ 24 ∷ []) (p .kind) ≡ false → s .device .present ≡ true
+  -- 27: "Kinds 1, 4, 5 get 27 while an ack is owed"
+  pub ack : among (1 ∷ 4 ∷ 5 ∷ []) (p .kind) ≡ true → s .device .owed ≡ false
+  -- 26: "1 needs two .. With a device, 1 gets 26"; "4 needs one or two"; "24 clears it; when none is owed, 26"
+  pub connect : p .kind ≡ 1 → (s .device .present ≡ false) × (s .device .introduction ≡ Two)
+  pub interfaces : p .kind ≡ 4 → s .device .present ≡ false → s .device .introduction ≡ Nothing → ⊥
+  pub acknowledgement : p .kind ≡ 24 → s .device .owed ≡ true
+  -- 28: the row of its endpoint has the type that it wants; "18, 19 (every mask bit)" bulk
+  pub type : (k : ℕ) → wants from (p .kind) (inwardOf p) ≡ some k → stateAt (s .device .rows) (endpointOf p) .kind ≡ k
+  pub types : among (18 ∷ 19 ∷ []) (p .kind) ≡ true → (r : ℕ) → r < length (s .device .rows .rows) → hasBit (field "mask" p) r ≡ true → getD (s .device .rows .rows) r (closedRow 0) .kind ≡ bulk
+  -- 29: "guest kinds 100 to 103 while a kind 6 or 9 waits"
+  pub settled : isGuest from ≡ true → 100 ≤ p .kind → p .kind ≤ 103 → (i : ℕ) → i < length (s .requests .places) → placeAt (s .requests) i .live ≡ true → among (6 ∷ 9 ∷ []) (placeAt (s .requests) i .request .kind) ≡ false
+  -- 30: "kind 102, host 103 IN and 104 on a closed stream"
+  pub stream : onStream from (p .kind) (inwardOf p) ≡ true → stateAt (s .device .rows) (endpointOf p) .streaming ≡ true
+  -- 31, 32: "31 if any live request has that id, else 32 if full"
+  pub unused : isRequest from (p .kind) ≡ true → (i : ℕ) → i < length (s .requests .places) → placeAt (s .requests) i .live ≡ true → placeAt (s .requests) i .request .id ≡ p .id → ⊥
+  pub room : isRequest from (p .kind) ≡ true → (i : ℕ) × (i < length (s .requests .places)) × (placeAt (s .requests) i .live ≡ false)
+  -- 33, 34: an outstanding request that it answers, and its length is not over that request's; or it is unsolicited
+  pub reply : isReply from (p .kind) (inwardOf p) ≡ true → ((i : ℕ) × Answers (s .requests) p i × (countOf p ≤ placeAt (s .requests) i .request .length)) ⊎ Unsolicited (s .requests) p

@@ -1,0 +1,4 @@
+pub mod Logic
+pub mod Allowed
+pub mod Agree
+pub mod Passes

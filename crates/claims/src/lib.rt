@@ -1,0 +1,1 @@
+// Theorems only, in specs/: what follows from the definitions of the session.
