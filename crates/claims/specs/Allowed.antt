@@ -121,7 +121,7 @@ pub record Allowed (s : Session) (from : Side) (p : Content) : Type 0 where
   pub type : (k : ℕ) → wants from (p .kind) (inwardOf p) ≡ some k → stateAt (s .device .rows) (endpointOf p) .kind ≡ k
   pub types : among (18 ∷ 19 ∷ []) (p .kind) ≡ true → (r : ℕ) → r < length (s .device .rows .rows) → hasBit (field "mask" p) r ≡ true → getD (s .device .rows .rows) r (closedRow 0) .kind ≡ bulk
   -- 29: "guest kinds 100 to 103 while a kind 6 or 9 waits"
-  pub settled : isGuest from ≡ true → 100 ≤ p .kind → p .kind ≤ 103 → (i : ℕ) → i < length (s .requests .places) → placeAt (s .requests) i .live ≡ true → among (6 ∷ 9 ∷ []) (placeAt (s .requests) i .request .kind) ≡ false
+  pub settled : isGuest from ≡ true → 100 ≤ p .kind → p .kind ≤ 103 → (i : ℕ) → i < length (s .requests .places) → placeAt (s .requests) i .live ≡ true → oneOf 6 9 (placeAt (s .requests) i .request .kind) ≡ false
   -- 30: "kind 102, host 103 IN and 104 on a closed stream"
   pub stream : onStream from (p .kind) (inwardOf p) ≡ true → stateAt (s .device .rows) (endpointOf p) .streaming ≡ true
   -- 31, 32: "31 if any live request has that id, else 32 if full"

@@ -6,7 +6,8 @@ use mathlib.Core.Bool.{Bool, true, false, cond, not, _&&_, _||_, false≢true, t
 use mathlib.Core.List.{List, [], _∷_}
 use mathlib.Core.Logic.{_↔_, _⊎_, inl, inr}
 use mathlib.Core.Option.{Option, none, some, Option·some-injective, Option·none-ne-some}
-use mathlib.Core.Path.{_≡_, refl, sym, ap, _∙_}
+use mathlib.Core.Path.{_≡_, refl, sym, ap, subst, _∙_}
+use native.Mathlib.Nat.{zero-add}
 use native.Mathlib.Omega.{arith}
 use lib.ListN.{length, getD}
 use lib.Dec.{eqb, leb, ltb}
@@ -15,11 +16,12 @@ use borrow.Table.Steps.{cases}
 use Rattle.number.specs.Bits.{hasBit}
 use Rattle.endpoint.specs.declared.Endpoint.{Endpoint}
 use Rattle.header.specs.declared.Side.{Side}
+use Rattle.header.specs.declared.Side.the-variants.{Guest, Host}
 use Rattle.kinds.specs.Table.{Kind, kinds}
 use Rattle.kinds.specs.Content.{Content, find}
 use Rattle.kinds.specs.Number.{isGuest, sends}
 use Rattle.scan.specs.Scan.{firstAt, anyAt}
-use Rattle.scan.specs.Laws.{first-found, first-absent, first-some}
+use Rattle.scan.specs.Laws.{first-found, first-absent, first-some, any-absent, any-not}
 use Rattle.device.specs.declared.RowState.{RowState}
 use Rattle.device.specs.declared.Rows.{Rows}
 use Rattle.device.specs.declared.Introduction.{Introduction}
@@ -42,7 +44,7 @@ use Rattle.checks.specs.declared.Match.the-variants.{Unmatched, Matched}
 use Rattle.checks.specs.Checks.{traitsOf, isSome, noDevice, ackOwed, isBegun, isDone, outOfOrder, mistypedBy, wrongType, isTransfer, settling, isOpen, streamClosed, idInUse, isFull, matchIn, matchOf, isUnmatched, isUnsolicited, noSuchRequest, tooLong, numberFor, numberOf}
 use Rattle.session.specs.declared.Session.{Session}
 use Rattle.claims.specs.Logic.{and-parts, and-whole, fails, failing, implied, implying, or-parts, or-none, false-not, true-not}
-use Rattle.claims.specs.Allowed.{among, isRequest, isReply, answersKind, carriesTarget, wants, onStream, endpointOf, inwardOf, replyTarget, countOf, Answers, Unsolicited, Allowed}
+use Rattle.claims.specs.Allowed.{among, oneOf, isRequest, isReply, answersKind, carriesTarget, wants, onStream, endpointOf, inwardOf, replyTarget, countOf, Answers, Unsolicited, Allowed}
 use Rattle.claims.specs.Agree.{Facts, factsOf, factsBy, disordered, rowBy, typedBy, answersBy, agrees}
 
 -- ---- the number is 0 exactly where no check holds
@@ -60,8 +62,8 @@ pub record Quiet (d : Device) (t : Requests) (e : Event) (m : Match) : Type 0 wh
   pub short : tooLong e m ≡ false
 
 -- a check that comes first does not hold, nor any after it
-next : (n : ℕ) (b : Bool) (rest : ℕ) → (n ≡ 0 → ⊥) → cond b n rest ≡ 0 → (b ≡ false) × (rest ≡ 0)
-next n true rest h e = absurd (h e)
+next : (n : ℕ) (b : Bool) (rest : ℕ) → eqb n 0 ≡ false → cond b n rest ≡ 0 → (b ≡ false) × (rest ≡ 0)
+next n true rest h e = absurd (false≢true (sym h ∙ eq-eqb n 0 e))
 next n false rest h e = (refl, e)
 
 skip : (n : ℕ) (b : Bool) (rest : ℕ) → b ≡ false → rest ≡ 0 → cond b n rest ≡ 0
@@ -71,16 +73,16 @@ skip n false rest e f = f
 pub quiet : (d : Device) (t : Requests) (e : Event) (m : Match) → numberFor d t e m ≡ 0 → Quiet d t e m
 unfolding numberFor
 quiet d t e m z =
-    let a = next 25 _ _ (λ h. omega (arith, h)) z in
-    let b = next 27 _ _ (λ h. omega (arith, h)) (a .1) in
-    let c = next 26 _ _ (λ h. omega (arith, h)) (b .1) in
-    let f = next 28 _ _ (λ h. omega (arith, h)) (c .1) in
-    let g = next 29 _ _ (λ h. omega (arith, h)) (f .1) in
-    let i = next 30 _ _ (λ h. omega (arith, h)) (g .1) in
-    let j = next 31 _ _ (λ h. omega (arith, h)) (i .1) in
-    let k = next 32 _ _ (λ h. omega (arith, h)) (j .1) in
-    let l = next 33 _ _ (λ h. omega (arith, h)) (k .1) in
-    let o = next 34 _ _ (λ h. omega (arith, h)) (l .1) in
+    let a = next 25 _ _ refl z in
+    let b = next 27 _ _ refl (a .1) in
+    let c = next 26 _ _ refl (b .1) in
+    let f = next 28 _ _ refl (c .1) in
+    let g = next 29 _ _ refl (f .1) in
+    let i = next 30 _ _ refl (g .1) in
+    let j = next 31 _ _ refl (i .1) in
+    let k = next 32 _ _ refl (j .1) in
+    let l = next 33 _ _ refl (k .1) in
+    let o = next 34 _ _ refl (l .1) in
     record { device = a .0; ack = b .0; order = c .0; type = f .0; settled = g .0; stream = i .0; unused = j .0; room = k .0; matched = l .0; short = o .0 }
 
 pub silent : (d : Device) (t : Requests) (e : Event) (m : Match) → Quiet d t e m → numberFor d t e m ≡ 0
@@ -96,3 +98,401 @@ silent d t e m q =
     (skip 32 _ _ (q .room)
     (skip 33 _ _ (q .matched)
     (skip 34 _ _ (q .short) refl)))))))))
+
+-- ---- what a search says of the places
+
+module _ (t : Requests) (q : Query) where
+  none-when : isSome (lowest t q) ≡ false → (i : ℕ) → i < length (t .places) → meets q (placeAt t i) ≡ false
+  unfolding lowest
+  none-when h i l = cases (meets q (placeAt t i)) (λ e. absurd (true≢false (sym (found e) ∙ h))) (λ e. e)
+    where
+      found : meets q (placeAt t i) ≡ true → isSome (firstAt (meets q) 0 (t .places)) ≡ true
+      found e = ap isSome (first-some (meets q) (t .places) freePlace i l e .1)
+
+  when-none : ((i : ℕ) → i < length (t .places) → meets q (placeAt t i) ≡ false) → isSome (lowest t q) ≡ false
+  unfolding lowest
+  when-none f = go (firstAt (meets q) 0 (t .places)) refl
+    where
+      go : (o : Option ℕ) → firstAt (meets q) 0 (t .places) ≡ o → isSome o ≡ false
+      go none e = refl
+      go (some i) e =
+          let r = first-found (meets q) (t .places) i freePlace e in
+          absurd (true≢false (sym (r .1) ∙ f i (r .0)))
+
+  some-at : isSome (lowest t q) ≡ true → (i : ℕ) × (i < length (t .places)) × (meets q (placeAt t i) ≡ true)
+  unfolding lowest
+  some-at h = go (firstAt (meets q) 0 (t .places)) refl h
+    where
+      go : (o : Option ℕ) → firstAt (meets q) 0 (t .places) ≡ o → isSome o ≡ true → (i : ℕ) × (i < length (t .places)) × (meets q (placeAt t i) ≡ true)
+      go none e f = absurd (false≢true f)
+      go (some i) e f = let r = first-found (meets q) (t .places) i freePlace e in (i, r .0, r .1)
+
+  at-some : (i : ℕ) → i < length (t .places) → meets q (placeAt t i) ≡ true → isSome (lowest t q) ≡ true
+  at-some i l e = cases (isSome (lowest t q)) (λ h. h) (λ h. absurd (true≢false (sym e ∙ none-when h i l)))
+
+-- ---- kinds
+
+-- a kind of a list of two is the one or the other
+two : (m n k : ℕ) → among (m ∷ n ∷ []) k ≡ true → (k ≡ m) ⊎ (k ≡ n)
+two m n k h = cases (eqb k m) (λ e. inl (eqb-true k m e)) (λ e. inr (other e))
+  where
+    other : eqb k m ≡ false → k ≡ n
+    other e = cases (eqb k n) (λ f. eqb-true k n f) (λ f. absurd (false≢true (sym (or-none (eqb k m) (eqb k n || false) e (or-none (eqb k n) false f refl)) ∙ h)))
+
+-- a mask's kind wants no type of an endpoint
+mask-wants : (from : Side) (kind : ℕ) (inward : Bool) → among (18 ∷ 19 ∷ []) kind ≡ true → wants from kind inward ≡ none
+mask-wants from kind inward h = go from (two 18 19 kind h)
+  where
+    at : (from : Side) (n : ℕ) → kind ≡ n → wants from n inward ≡ none → wants from kind inward ≡ none
+    at from n e f = ap (λ (k : ℕ). wants from k inward) e ∙ f
+
+    go : (from : Side) → (kind ≡ 18) ⊎ (kind ≡ 19) → wants from kind inward ≡ none
+    go Guest (inl e) = at Guest 18 e refl
+    go Guest (inr e) = at Guest 19 e refl
+    go Host (inl e) = at Host 18 e refl
+    go Host (inr e) = at Host 19 e refl
+
+-- what comes on a stream wants a type of its endpoint
+stream-wants : (from : Side) (kind : ℕ) (inward : Bool) → onStream from kind inward ≡ true → (k : ℕ) × (wants from kind inward ≡ some k)
+stream-wants from kind inward h = cases (among (102 ∷ 104 ∷ []) kind) (λ e. listed from (two 102 104 kind e)) (λ e. interrupt-in from inward e h)
+  where
+    at : (from : Side) (inward : Bool) (n k : ℕ) → kind ≡ n → wants from n inward ≡ some k → (k : ℕ) × (wants from kind inward ≡ some k)
+    at from inward n k e f = (k, ap (λ (m : ℕ). wants from m inward) e ∙ f)
+
+    listed : (from : Side) → (kind ≡ 102) ⊎ (kind ≡ 104) → (k : ℕ) × (wants from kind inward ≡ some k)
+    listed from (inl e) = at from inward 102 1 e refl
+    listed Guest (inr e) = at Guest inward 104 2 e refl
+    listed Host (inr e) = at Host inward 104 2 e refl
+
+    interrupt-in : (from : Side) (inward : Bool) → among (102 ∷ 104 ∷ []) kind ≡ false → onStream from kind inward ≡ true → (k : ℕ) × (wants from kind inward ≡ some k)
+    interrupt-in Guest inward e f = absurd (false≢true (sym (or-none (among (102 ∷ 104 ∷ []) kind) false e refl) ∙ f))
+    interrupt-in Host false e f = absurd (false≢true (sym (or-none (among (102 ∷ 104 ∷ []) kind) (eqb kind 103 && false) e (failing (eqb kind 103) false (λ z. refl))) ∙ f))
+    interrupt-in Host true e f = cases (eqb kind 103) (λ g. at Host true 103 3 (eqb-true kind 103 g) refl) (λ g. absurd (false≢true (sym (or-none (among (102 ∷ 104 ∷ []) kind) (eqb kind 103 && true) e (failing (eqb kind 103) true (λ z. absurd (false≢true (sym g ∙ z))))) ∙ f)))
+
+-- ---- introductions
+
+done : (i : Introduction) → isDone i ≡ true → i ≡ Two
+done Nothing e = absurd (false≢true e)
+done One e = absurd (false≢true e)
+done Two e = refl
+
+begun : (i : Introduction) → (i ≡ Nothing → ⊥) → isBegun i ≡ true
+begun Nothing f = absurd (f refl)
+begun One f = refl
+begun Two f = refl
+
+-- ---- rows
+
+-- a type is asked for only where the class is typed
+typed-is : (rows : Rows) (b : Bool) (t : Typed) → (b && mistypedBy rows t) ≡ mistypedBy rows (cond b t Untyped)
+typed-is rows true t = refl
+typed-is rows false t = refl
+
+open-is : (rows : Rows) (b : Bool) (t : Typed) → (b && not (isOpen rows t)) ≡ (b && not (isOpen rows (cond b t Untyped)))
+open-is rows true t = refl
+open-is rows false t = refl
+
+-- ---- each check and its relation, for a packet whose event the lists describe
+
+module _ (s : Session) (from : Side) (p : Content) (a : factsOf (eventOf from p) ≡ factsBy from p) where
+  abbrev d : Device
+  d = s .device
+
+  abbrev t : Requests
+  t = s .requests
+
+  abbrev e : Event
+  e = eventOf from p
+
+  -- 25
+  device-to : noDevice d e ≡ false → among (0 ∷ 1 ∷ 4 ∷ 5 ∷ 22 ∷ 23 ∷ 24 ∷ []) (p .kind) ≡ false → d .present ≡ true
+  device-to h n = not-false (d .present) (fails (traitsOf (e .class) .device) (not (d .present)) h ((λ i. a i .device) ∙ true-not _ n))
+
+  device-from : (among (0 ∷ 1 ∷ 4 ∷ 5 ∷ 22 ∷ 23 ∷ 24 ∷ []) (p .kind) ≡ false → d .present ≡ true) → noDevice d e ≡ false
+  device-from f = failing (traitsOf (e .class) .device) (not (d .present)) (λ h. false-not (d .present) (f (not-true _ (sym (λ i. a i .device) ∙ h))))
+
+  -- 27
+  ack-to : ackOwed d e ≡ false → among (1 ∷ 4 ∷ 5 ∷ []) (p .kind) ≡ true → d .owed ≡ false
+  ack-to h n = fails (traitsOf (e .class) .introduces) (d .owed) h ((λ i. a i .introduces) ∙ n)
+
+  ack-from : (among (1 ∷ 4 ∷ 5 ∷ []) (p .kind) ≡ true → d .owed ≡ false) → ackOwed d e ≡ false
+  ack-from f = failing (traitsOf (e .class) .introduces) (d .owed) (λ h. f (sym (λ i. a i .introduces) ∙ h))
+
+  -- 26
+  order-is : outOfOrder d (e .class) ≡ disordered (p .kind) d
+  order-is i = a i .order d
+
+  order-at : (n : ℕ) → outOfOrder d (e .class) ≡ false → p .kind ≡ n → disordered n d ≡ false
+  order-at n h k = sym (ap (λ (m : ℕ). disordered m d) k) ∙ sym order-is ∙ h
+
+  connect-to : outOfOrder d (e .class) ≡ false → p .kind ≡ 1 → (d .present ≡ false) × (d .introduction ≡ Two)
+  connect-to h k =
+      let r = or-parts (d .present) (not (isDone (d .introduction))) (order-at 1 h k) in
+      (r .0, done (d .introduction) (not-false (isDone (d .introduction)) (r .1)))
+
+  interfaces-to : outOfOrder d (e .class) ≡ false → p .kind ≡ 4 → d .present ≡ false → d .introduction ≡ Nothing → ⊥
+  interfaces-to h k n i =
+      let r : isBegun (d .introduction) ≡ true = not-false (isBegun (d .introduction)) (fails (not (d .present)) (not (isBegun (d .introduction))) (order-at 4 h k) (true-not (d .present) n)) in
+      false≢true (sym (ap isBegun i) ∙ r)
+
+  acknowledgement-to : outOfOrder d (e .class) ≡ false → p .kind ≡ 24 → d .owed ≡ true
+  acknowledgement-to h k = not-false (d .owed) (order-at 24 h k)
+
+  order-from : (p .kind ≡ 1 → (d .present ≡ false) × (d .introduction ≡ Two)) → (p .kind ≡ 4 → d .present ≡ false → d .introduction ≡ Nothing → ⊥) → (p .kind ≡ 24 → d .owed ≡ true) → outOfOrder d (e .class) ≡ false
+  order-from f g h = order-is ∙ cases (eqb (p .kind) 1) first (λ x. cases (eqb (p .kind) 4) (second x) (λ y. cases (eqb (p .kind) 24) (third x y) (λ z. rw (x, y, z))))
+    where
+      first : eqb (p .kind) 1 ≡ true → disordered (p .kind) d ≡ false
+      first x =
+          let r = f (eqb-true (p .kind) 1 x) in
+          rw x (or-none (d .present) (not (isDone (d .introduction))) (r .0) (false-not (isDone (d .introduction)) (ap isDone (r .1))))
+
+      second : eqb (p .kind) 1 ≡ false → eqb (p .kind) 4 ≡ true → disordered (p .kind) d ≡ false
+      second x y =
+          rw (x, y) (failing (not (d .present)) (not (isBegun (d .introduction))) (λ n. false-not (isBegun (d .introduction)) (begun (d .introduction) (g (eqb-true (p .kind) 4 y) (not-true (d .present) n)))))
+
+      third : eqb (p .kind) 1 ≡ false → eqb (p .kind) 4 ≡ false → eqb (p .kind) 24 ≡ true → disordered (p .kind) d ≡ false
+      third x y z = rw (x, y, z) (false-not (d .owed) (h (eqb-true (p .kind) 24 z)))
+
+  -- 28
+  types-are : wrongType (d .rows) e ≡ mistypedBy (d .rows) (typedBy from p)
+  types-are = typed-is (d .rows) (traitsOf (e .class) .typed) (e .typed) ∙ (λ i. mistypedBy (d .rows) (a i .typed))
+
+  type-to : wrongType (d .rows) e ≡ false → (k : ℕ) → wants from (p .kind) (inwardOf p) ≡ some k → stateAt (d .rows) (endpointOf p) .kind ≡ k
+  type-to h k w = cases (among (18 ∷ 19 ∷ []) (p .kind)) masked plain
+    where
+      masked : among (18 ∷ 19 ∷ []) (p .kind) ≡ true → stateAt (d .rows) (endpointOf p) .kind ≡ k
+      masked m = absurd (Option·none-ne-some k (sym (mask-wants from (p .kind) (inwardOf p) m) ∙ w))
+
+      plain : among (18 ∷ 19 ∷ []) (p .kind) ≡ false → stateAt (d .rows) (endpointOf p) .kind ≡ k
+      plain m = eqb-true (stateAt (d .rows) (endpointOf p) .kind) k (not-false _ (sym (rw (m, w)) ∙ sym types-are ∙ h))
+
+  types-to : wrongType (d .rows) e ≡ false → among (18 ∷ 19 ∷ []) (p .kind) ≡ true → (r : ℕ) → r < length (d .rows .rows) → hasBit (field "mask" p) r ≡ true → getD (d .rows .rows) r (closedRow 0) .kind ≡ bulk
+  types-to h m r l b =
+      let none-such : maskMistyped (d .rows) (field "mask" p) bulk ≡ false = sym (rw m) ∙ sym types-are ∙ h in
+      let here : mistyped (field "mask" p) bulk r (getD (d .rows .rows) r (closedRow 0)) ≡ false = ap (λ (n : ℕ). mistyped (field "mask" p) bulk n (getD (d .rows .rows) r (closedRow 0))) (sym (zero-add r)) ∙ any-absent (mistyped (field "mask" p) bulk) (d .rows .rows) 0 (closedRow 0) none-such r l in
+      eqb-true _ bulk (not-false _ (fails (hasBit (field "mask" p) r) _ here b))
+
+  type-from : ((k : ℕ) → wants from (p .kind) (inwardOf p) ≡ some k → stateAt (d .rows) (endpointOf p) .kind ≡ k)
+      → (among (18 ∷ 19 ∷ []) (p .kind) ≡ true → (r : ℕ) → r < length (d .rows .rows) → hasBit (field "mask" p) r ≡ true → getD (d .rows .rows) r (closedRow 0) .kind ≡ bulk)
+      → wrongType (d .rows) e ≡ false
+  type-from f g = types-are ∙ cases (among (18 ∷ 19 ∷ []) (p .kind)) masked (λ m. rw m (wanted (wants from (p .kind) (inwardOf p)) refl))
+    where
+      masked : among (18 ∷ 19 ∷ []) (p .kind) ≡ true → mistypedBy (d .rows) (typedBy from p) ≡ false
+      masked m = rw m (any-not (mistyped (field "mask" p) bulk) (d .rows .rows) 0 (closedRow 0) (λ k l. rw (zero-add k) (failing (hasBit (field "mask" p) k) _ (λ b. false-not _ (eq-eqb _ bulk (g m k l b))))))
+
+      wanted : (o : Option ℕ) → wants from (p .kind) (inwardOf p) ≡ o → mistypedBy (d .rows) (rowBy o p) ≡ false
+      wanted none w = refl
+      wanted (some k) w = false-not _ (eq-eqb _ k (f k w))
+
+  -- 29
+  settled-to : settling t e ≡ false → isGuest from ≡ true → 100 ≤ p .kind → p .kind ≤ 103 → (i : ℕ) → i < length (t .places) → placeAt t i .live ≡ true → oneOf 6 9 (placeAt t i .request .kind) ≡ false
+  unfolding eventOf
+  settled-to h g l u i n v =
+      let w : isTransfer e ≡ true = and-whole _ _ (and-whole _ _ g (le-leb 100 (p .kind) l)) (le-leb (p .kind) 103 u) in
+      fails (placeAt t i .live) _ (none-when t Settling (fails (isTransfer e) _ h w) i n) v
+
+  settled-from : (isGuest from ≡ true → 100 ≤ p .kind → p .kind ≤ 103 → (i : ℕ) → i < length (t .places) → placeAt t i .live ≡ true → oneOf 6 9 (placeAt t i .request .kind) ≡ false) → settling t e ≡ false
+  unfolding eventOf
+  settled-from f = failing (isTransfer e) _ waits
+    where
+      waits : isTransfer e ≡ true → isSome (lowest t Settling) ≡ false
+      waits w =
+          let r = and-parts _ (leb (p .kind) 103) w in
+          let q = and-parts (isGuest from) (leb 100 (p .kind)) (r .0) in
+          when-none t Settling (λ i n. failing (placeAt t i .live) _ (λ v. f (q .0) (leb-true 100 (p .kind) (q .1)) (leb-true (p .kind) 103 (r .1)) i n v))
+
+  -- 30
+  stream-is : streamClosed (d .rows) e ≡ (onStream from (p .kind) (inwardOf p) && not (isOpen (d .rows) (cond (onStream from (p .kind) (inwardOf p)) (rowBy (wants from (p .kind) (inwardOf p)) p) Untyped)))
+  stream-is = open-is (d .rows) (traitsOf (e .class) .streamed) (e .typed) ∙ (λ i. a i .streamed && not (isOpen (d .rows) (a i .stream)))
+
+  -- of what comes on a stream, the stream is that of its endpoint's row
+  stream-at : onStream from (p .kind) (inwardOf p) ≡ true → isOpen (d .rows) (cond (onStream from (p .kind) (inwardOf p)) (rowBy (wants from (p .kind) (inwardOf p)) p) Untyped) ≡ stateAt (d .rows) (endpointOf p) .streaming
+  stream-at h = let w = stream-wants from (p .kind) (inwardOf p) h in rw (h, w .1)
+
+  stream-to : streamClosed (d .rows) e ≡ false → onStream from (p .kind) (inwardOf p) ≡ true → stateAt (d .rows) (endpointOf p) .streaming ≡ true
+  stream-to h o = sym (stream-at o) ∙ not-false _ (fails (onStream from (p .kind) (inwardOf p)) _ (sym stream-is ∙ h) o)
+
+  stream-from : (onStream from (p .kind) (inwardOf p) ≡ true → stateAt (d .rows) (endpointOf p) .streaming ≡ true) → streamClosed (d .rows) e ≡ false
+  stream-from f = stream-is ∙ failing (onStream from (p .kind) (inwardOf p)) _ (λ o. false-not _ (stream-at o ∙ f o))
+
+  -- 31
+  unused-to : idInUse t e ≡ false → isRequest from (p .kind) ≡ true → (i : ℕ) → i < length (t .places) → placeAt t i .live ≡ true → placeAt t i .request .id ≡ p .id → ⊥
+  unfolding eventOf
+  unused-to h r i n v q =
+      let z : isSome (lowest t (Id (p .id))) ≡ false = fails (traitsOf (e .class) .request) _ h ((λ j. a j .request) ∙ r) in
+      let x : eqb (placeAt t i .request .id) (p .id) ≡ false = fails (placeAt t i .live) _ (none-when t (Id (p .id)) z i n) v in
+      false≢true (sym x ∙ eq-eqb (placeAt t i .request .id) (p .id) q)
+
+  unused-from : (isRequest from (p .kind) ≡ true → (i : ℕ) → i < length (t .places) → placeAt t i .live ≡ true → placeAt t i .request .id ≡ p .id → ⊥) → idInUse t e ≡ false
+  unfolding eventOf
+  unused-from f =
+      failing (traitsOf (e .class) .request) _
+      (λ h. when-none t (Id (p .id)) (λ i n. failing (placeAt t i .live) _ (λ v. ne-eqb (placeAt t i .request .id) (p .id) (f (sym (λ j. a j .request) ∙ h) i n v))))
+
+  -- 32
+  room-to : isFull t e ≡ false → isRequest from (p .kind) ≡ true → (i : ℕ) × (i < length (t .places)) × (placeAt t i .live ≡ false)
+  room-to h r =
+      let f = some-at t Free (not-false _ (fails (traitsOf (e .class) .request) _ h ((λ j. a j .request) ∙ r))) in
+      (f .0, f .1, not-true _ (f .2))
+
+  room-from : (isRequest from (p .kind) ≡ true → (i : ℕ) × (i < length (t .places)) × (placeAt t i .live ≡ false)) → isFull t e ≡ false
+  room-from f =
+      failing (traitsOf (e .class) .request) _
+      (λ h. let r = f (sym (λ j. a j .request) ∙ h) in false-not _ (at-some t Free (r .0) (r .1) (true-not _ (r .2))))
+
+  -- 33, 34
+
+  abbrev query : Query
+  query = Answered (e .request) (e .answers)
+
+  module _ (r : isReply from (p .kind) (inwardOf p) ≡ true) where
+    replies : traitsOf (e .class) .reply ≡ true
+    replies = (λ i. a i .reply) ∙ r
+
+    -- the requests that the reply answers are those that the lists name
+    answers-is : (q : Request) → answers (e .request) (e .answers) q ≡ answersBy p q
+    answers-is q = sym (rw replies) ∙ (λ i. a i .answers q) ∙ rw r
+
+    answers-to : (i : ℕ) → i < length (t .places) → meets query (placeAt t i) ≡ true → Answers t p i
+    answers-to i n m =
+        let q = placeAt t i .request in
+        let v = and-parts (placeAt t i .live) (answers (e .request) (e .answers) q) m in
+        let w = and-parts (eqb (q .id) (p .id) && answersKind (p .kind) (q .kind)) (not (carriesTarget (p .kind)) || eqb (q .target) (replyTarget p)) (sym (answers-is q) ∙ v .1) in
+        let x = and-parts (eqb (q .id) (p .id)) (answersKind (p .kind) (q .kind)) (w .0) in
+        record {
+          place = n;
+          live = v .0;
+          id = eqb-true (q .id) (p .id) (x .0);
+          kind = x .1;
+          target = λ c. eqb-true (q .target) (replyTarget p) (implied (carriesTarget (p .kind)) (eqb (q .target) (replyTarget p)) (w .1) c);
+        }
+
+    answers-from : (i : ℕ) → Answers t p i → meets query (placeAt t i) ≡ true
+    answers-from i w =
+        let q = placeAt t i .request in
+        and-whole (placeAt t i .live) _ (w .live)
+        (answers-is q ∙ and-whole _ _ (and-whole _ _ (eq-eqb (q .id) (p .id) (w .id)) (w .kind)) (implying (carriesTarget (p .kind)) _ (λ c. eq-eqb (q .target) (replyTarget p) (w .target c))))
+
+    match-is : matchOf t e ≡ matchIn t (lowest t query)
+    unfolding matchOf
+    match-is = rw replies
+
+    unsolicited-is : isUnsolicited e ≡ (among (14 ∷ 17 ∷ 27 ∷ []) (p .kind) && eqb (p .id) 0 && eqb (field "status" p) 4)
+    unfolding eventOf
+    unsolicited-is i = a i .unsolicited && eqb (p .id) 0 && eqb (field "status" p) 4
+
+    -- nothing matches, and the reply passes: it is unsolicited
+    alone-to : lowest t query ≡ none → noSuchRequest e Unmatched ≡ false → Unsolicited t p
+    alone-to o h =
+        let u : isUnsolicited e ≡ true = not-false _ (fails (traitsOf (e .class) .reply && true) _ h (and-whole _ true replies refl)) in
+        let w = and-parts (among (14 ∷ 17 ∷ 27 ∷ []) (p .kind) && eqb (p .id) 0) (eqb (field "status" p) 4) (sym unsolicited-is ∙ u) in
+        let x = and-parts (among (14 ∷ 17 ∷ 27 ∷ []) (p .kind)) (eqb (p .id) 0) (w .0) in
+        record {
+          kind = x .0;
+          id = eqb-true (p .id) 0 (x .1);
+          status = eqb-true (field "status" p) 4 (w .1);
+          unmatched = λ i z. false≢true (sym (none-when t query (ap isSome o) i (z .place)) ∙ answers-from i z);
+        }
+
+    found-to : (i : ℕ) → lowest t query ≡ some i → tooLong e (Matched i (placeAt t i .request)) ≡ false → Answers t p i × (countOf p ≤ placeAt t i .request .length)
+    unfolding lowest eventOf
+    found-to i o h =
+        let w = first-found (meets query) (t .places) i freePlace o in
+        (answers-to i (w .0) (w .1), ltb-false (placeAt t i .request .length) (countOf p) h)
+
+    reply-to : noSuchRequest e (matchOf t e) ≡ false → tooLong e (matchOf t e) ≡ false → ((i : ℕ) × Answers t p i × (countOf p ≤ placeAt t i .request .length)) ⊎ Unsolicited t p
+    reply-to h l = go (lowest t query) refl
+      where
+        at : (o : Option ℕ) → lowest t query ≡ o → matchOf t e ≡ matchIn t o
+        at o z = match-is ∙ ap (matchIn t) z
+
+        go : (o : Option ℕ) → lowest t query ≡ o → ((i : ℕ) × Answers t p i × (countOf p ≤ placeAt t i .request .length)) ⊎ Unsolicited t p
+        go none z = inr (alone-to z (sym (ap (noSuchRequest e) (at none z)) ∙ h))
+        go (some i) z = let w = found-to i z (sym (ap (tooLong e) (at (some i) z)) ∙ l) in inl (i, w .0, w .1)
+
+    -- one live request has the reply's id, so the one that is found is the one that is meant
+    one-match : idsDiffer (t .places) ≡ true → (i j : ℕ) → Answers t p i → Answers t p j → i ≡ j
+    one-match u i j v w = differ-when (t .places) u i j (v .place) (w .place) (v .live) (w .live) (v .id ∙ sym (w .id))
+
+    matched-from : idsDiffer (t .places) ≡ true → (i : ℕ) → Answers t p i → countOf p ≤ placeAt t i .request .length → (noSuchRequest e (matchOf t e) ≡ false) × (tooLong e (matchOf t e) ≡ false)
+    unfolding lowest eventOf
+    matched-from u i w l =
+        let f = first-some (meets query) (t .places) freePlace i (w .place) (answers-from i w) in
+        let j = f .0 in
+        let z = first-found (meets query) (t .places) j freePlace (f .1) in
+        let same : i ≡ j = one-match u i j w (answers-to j (z .0) (z .1)) in
+        let m : matchOf t e ≡ Matched j (placeAt t j .request) = match-is ∙ ap (matchIn t) (f .1) in (
+          ap (noSuchRequest e) m ∙ failing (traitsOf (e .class) .reply && false) _ (λ x. absurd (false≢true (and-parts (traitsOf (e .class) .reply) false x .1))),
+          ap (tooLong e) m ∙ le-ltb (placeAt t j .request .length) (countOf p) (subst (λ (k : ℕ). countOf p ≤ placeAt t k .request .length) same l),
+        )
+
+    alone-from : Unsolicited t p → (noSuchRequest e (matchOf t e) ≡ false) × (tooLong e (matchOf t e) ≡ false)
+    alone-from u =
+        let m : matchOf t e ≡ Unmatched = match-is ∙ unfound (lowest t query) refl in
+        let w : isUnsolicited e ≡ true = unsolicited-is ∙ and-whole _ _ (and-whole _ _ (u .kind) (eq-eqb (p .id) 0 (u .id))) (eq-eqb (field "status" p) 4 (u .status)) in
+        (ap (noSuchRequest e) m ∙ failing (traitsOf (e .class) .reply && true) _ (λ x. false-not _ w), ap (tooLong e) m)
+      where
+        unfound : (o : Option ℕ) → lowest t query ≡ o → matchIn t o ≡ Unmatched
+        unfound none z = refl
+        unfound (some i) z = absurd (false≢true (sym (when-none t query (λ j n. cases (meets query (placeAt t j)) (λ x. absurd (u .unmatched j (answers-to j n x))) (λ x. x))) ∙ ap isSome z))
+
+  no-reply : isReply from (p .kind) (inwardOf p) ≡ false → (noSuchRequest e (matchOf t e) ≡ false) × (tooLong e (matchOf t e) ≡ false)
+  unfolding matchOf
+  no-reply r =
+      let n : traitsOf (e .class) .reply ≡ false = (λ i. a i .reply) ∙ r in
+      let m : matchOf t e ≡ Unmatched = rw n in
+      (rw n, ap (tooLong e) m)
+
+  reply-from : idsDiffer (t .places) ≡ true → (isReply from (p .kind) (inwardOf p) ≡ true → ((i : ℕ) × Answers t p i × (countOf p ≤ placeAt t i .request .length)) ⊎ Unsolicited t p) → (noSuchRequest e (matchOf t e) ≡ false) × (tooLong e (matchOf t e) ≡ false)
+  reply-from u f = cases (isReply from (p .kind) (inwardOf p)) (λ r. go r (f r)) no-reply
+    where
+      go : isReply from (p .kind) (inwardOf p) ≡ true → ((i : ℕ) × Answers t p i × (countOf p ≤ placeAt t i .request .length)) ⊎ Unsolicited t p → (noSuchRequest e (matchOf t e) ≡ false) × (tooLong e (matchOf t e) ≡ false)
+      go r (inl w) = matched-from r u (w .0) (w .1) (w .2)
+      go r (inr w) = alone-from r w
+
+-- ---- the theorem
+
+-- a packet of a known kind, from an end that may send it, to a session whose live requests have different ids (43 refuses others):
+-- the session checks give it 0 exactly when it is allowed
+pub passes : (s : Session) (from : Side) (p : Content) (k : Kind) → find (p .kind) kinds ≡ some k → sends (k .sender) from ≡ true → idsDiffer (s .requests .places) ≡ true
+    → (numberOf (s .device) (s .requests) (eventOf from p) ≡ 0) ↔ Allowed s from p
+unfolding numberOf
+passes s from p k f h u = (allowed, zero-number)
+  where
+    a : factsOf (eventOf from p) ≡ factsBy from p
+    a = agrees from p k f h
+
+    allowed : numberFor (s .device) (s .requests) (eventOf from p) (matchOf (s .requests) (eventOf from p)) ≡ 0 → Allowed s from p
+    allowed z =
+        let q = quiet (s .device) (s .requests) (eventOf from p) (matchOf (s .requests) (eventOf from p)) z in
+        record {
+          device = device-to s from p a (q .device);
+          ack = ack-to s from p a (q .ack);
+          connect = connect-to s from p a (q .order);
+          interfaces = interfaces-to s from p a (q .order);
+          acknowledgement = acknowledgement-to s from p a (q .order);
+          type = type-to s from p a (q .type);
+          types = types-to s from p a (q .type);
+          settled = settled-to s from p a (q .settled);
+          stream = stream-to s from p a (q .stream);
+          unused = unused-to s from p a (q .unused);
+          room = room-to s from p a (q .room);
+          reply = λ r. reply-to s from p a r (q .matched) (q .short);
+        }
+
+    zero-number : Allowed s from p → numberFor (s .device) (s .requests) (eventOf from p) (matchOf (s .requests) (eventOf from p)) ≡ 0
+    zero-number w =
+        let r = reply-from s from p a u (w .reply) in
+        silent (s .device) (s .requests) (eventOf from p) (matchOf (s .requests) (eventOf from p))
+        (record {
+          device = device-from s from p a (w .device);
+          ack = ack-from s from p a (w .ack);
+          order = order-from s from p a (w .connect) (w .interfaces) (w .acknowledgement);
+          type = type-from s from p a (w .type) (w .types);
+          settled = settled-from s from p a (w .settled);
+          stream = stream-from s from p a (w .stream);
+          unused = unused-from s from p a (w .unused);
+          room = room-from s from p a (w .room);
+          matched = r .0;
+          short = r .1;
+        })

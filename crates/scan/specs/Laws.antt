@@ -2,7 +2,7 @@
 -- Assumes nothing.
 use Prim.Native.Nat.{ℕ, zero, suc, _+_, _<_}
 use mathlib.Core.Path.{_≡_, refl, sym, ap, _∙_}
-use mathlib.Core.Bool.{Bool, true, false, cond, true≢false, or-true}
+use mathlib.Core.Bool.{Bool, true, false, cond, _||_, true≢false, or-true}
 use mathlib.Core.List.{List, [], _∷_}
 use mathlib.Core.Option.{Option, none, some, Option·some-injective, Option·none-ne-some, Option·some-ne-none}
 use native.Mathlib.Nat.{add-zero, zero-add, add-suc, suc-add}
@@ -12,8 +12,12 @@ use lib.Seq.{getD-set-same, getD-set-other}
 use lib.Dec.{eqb}
 use borrow.Author.Tests.{eqb-true, eqb-false}
 use borrow.Table.Steps.{cases}
-use Rattle.scan.specs.Scan.{firstAt, exists, eachAt}
+use Rattle.scan.specs.Scan.{firstAt, exists, anyAt, eachAt}
 use Rattle.scan.specs.Loop.{upTo, upto-at, upto-more}
+
+or-parts : (a b : Bool) → (a || b) ≡ false → (a ≡ false) × (b ≡ false)
+or-parts true b e = absurd (true≢false e)
+or-parts false b e = (refl, e)
 
 -- ---- the first that passes
 
@@ -138,3 +142,19 @@ module _ {A : Type 0} (f : ℕ → A → A) where
   unfolding eachAt
   each-same h [] i = refl
   each-same h (x ∷ xs) i = λ j. h i x j ∷ each-same h xs (suc i) j
+
+-- ---- one that passes a test that sees its index
+
+module _ {A : Type 0} (p : ℕ → A → Bool) where
+  pub any-absent : (l : List A) (i : ℕ) (d : A) → anyAt p i l ≡ false → (k : ℕ) → k < length l → p (i + k) (getD l k d) ≡ false
+  unfolding anyAt
+  any-absent [] i d e k h = absurd (omega arith)
+  any-absent (x ∷ xs) i d e zero h = rw (add-zero i) (or-parts (p i x) (anyAt p (suc i) xs) e .0)
+  any-absent (x ∷ xs) i d e (suc k) h = rw (add-suc i k, ← suc-add i k) (any-absent xs (suc i) d (or-parts (p i x) (anyAt p (suc i) xs) e .1) k (omega arith))
+
+  pub any-not : (l : List A) (i : ℕ) (d : A) → ((k : ℕ) → k < length l → p (i + k) (getD l k d) ≡ false) → anyAt p i l ≡ false
+  unfolding anyAt
+  any-not [] i d f = refl
+  any-not (x ∷ xs) i d f =
+      rw (sym (ap (λ (m : ℕ). p m x) (add-zero i)) ∙ f 0 (omega arith))
+      (any-not xs (suc i) d (λ k h. rw (suc-add i k, ← add-suc i k) (f (suc k) (omega arith))))

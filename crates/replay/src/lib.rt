@@ -1,0 +1,61 @@
+// Packets judged whole, one after the other, from a fresh session: for hosts in other languages that test the session.
+ghost use mathlib.Core.Path.{_≡_};
+ghost use lib.Dec.{eqb};
+ghost use Rattle.replay.specs.Replay.{verdictOf, senderOf, Replays};
+use decoder::Reading;
+use decoder::read;
+use events::event_of;
+use header::Header;
+use header::Side;
+use number::get8;
+use number::get16;
+use number::part;
+use packet::Packet;
+use session::Judged;
+use session::Session;
+use session::fresh_session;
+use session::judge;
+use session::link_of;
+
+// Judges the bytes of one packet: the wire checks, then the session checks.
+pub fn verdict(s: Session, from: Side, bytes: &[u8]) -> Judged
+    ensures { λ r. ⌜ r ≡ verdictOf s from (now (bytes .entry)) ⌝ }
+{
+    let reading = read(link_of(s, from), bytes);
+    match reading {
+        Reading::Refused(number) => Judged { session: s, number },
+        Reading::Passed(h, p) => {
+            let body = part(bytes, h.size, bytes.len());
+            judge(s, event_of(from, h.id, p, body))
+        }
+    }
+}
+
+fn sender_of(b: u8) -> Side
+    ensures { λ r. ⌜ r ≡ senderOf b ⌝ }
+{
+    if b == 0 { Side::Guest } else { Side::Host }
+}
+
+// Writes the number of each packet of a script, as far as the script and the output go, and tells how many.
+#[no_mangle]
+pub extern "C" fn replay(script: &[u8], out: &mut [u8]) -> usize
+    ensures { λ r. ⌜ Replays (now (script .entry)) (now (out .entry)) (now (out .exit)) r ⌝ }
+{
+    let mut s = fresh_session();
+    let mut at: usize = 0;
+    let mut k: usize = 0;
+    while k < out.len() {
+        let rest = &script[at..];
+        let size = 3 + get16(rest, 1) as usize;
+        if rest.len() < size {
+            return k;
+        }
+        let v = verdict(s, sender_of(get8(rest, 0)), part(rest, 3, size));
+        out[k] = v.number;
+        s = v.session;
+        at = at + size;
+        k += 1;
+    }
+    k
+}
