@@ -1,16 +1,13 @@
 // Packets judged whole, one after the other, from a fresh session: for hosts in other languages that test the session.
 ghost use mathlib.Core.Path.{_≡_};
-ghost use lib.Dec.{eqb};
 ghost use Rattle.replay.specs.Replay.{verdictOf, senderOf, Replays};
 use decoder::Reading;
 use decoder::read;
 use events::event_of;
-use header::Header;
 use header::Side;
 use number::get8;
 use number::get16;
 use number::part;
-use packet::Packet;
 use session::Judged;
 use session::Session;
 use session::fresh_session;
