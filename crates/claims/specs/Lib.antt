@@ -2,3 +2,4 @@ pub mod Logic
 pub mod Allowed
 pub mod Agree
 pub mod Passes
+pub mod Examples
