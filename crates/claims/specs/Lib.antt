@@ -2,4 +2,6 @@ pub mod Logic
 pub mod Allowed
 pub mod Agree
 pub mod Passes
+pub mod Steps
+pub mod Kept
 pub mod Examples

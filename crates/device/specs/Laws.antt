@@ -90,3 +90,9 @@ replaced-control new d n c = same-control (replaced new d) new (replaced-kind ne
 pub closed-nowhere : (d : Rows) → closed d Nowhere ≡ d
 unfolding closed
 closed-nowhere d = λ j. record { rows = each-same (shut Nowhere) (λ i r. refl) (d .rows) 0 j }
+
+-- ---- the number of rows at the start
+
+pub start-length : length (startRows .rows) ≡ 32
+unfolding startRows
+start-length = refl

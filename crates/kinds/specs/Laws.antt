@@ -5,7 +5,7 @@ use mathlib.Core.Bool.{Bool, true, false, cond, not, _&&_, _||_, false≢true}
 use mathlib.Core.List.{List, [], _∷_, _++_, append-assoc}
 use mathlib.Core.Option.{Option, none, some}
 use Prim.Native.Nat.{ℕ, zero, suc, _+_, _-_, _*_, _^_, _≤_, _<_}
-use native.Mathlib.Nat.{add-assoc, add-zero, zero-add, mul-zero, mul-suc, add-comm}
+use native.Mathlib.Nat.{add-assoc, add-zero, zero-add, add-suc, suc-add, mul-zero, mul-suc, add-comm}
 use native.Mathlib.Omega.{arith}
 use lib.ListN.{length, getD, take, drop, length-append, length-drop, take-append-drop}
 use lib.Seq.{drop-at, drop-drop, getD-drop, length-take-le}
@@ -16,7 +16,7 @@ use Rattle.number.specs.Little.{le, bytesOf}
 use Rattle.number.specs.Laws.{le-bytes, le-shift, le-lt, length-bytes}
 use Rattle.kinds.specs.Table.{Bits, Field}
 use Rattle.kinds.specs.Content.{Value, shared, sizeOf, size, numbers, whole, split, bytesOfAll, bytesOfValue, bytes}
-use Rattle.kinds.specs.Number.{surplus, complete, badField, badFields, isNone, orElse}
+use Rattle.kinds.specs.Number.{surplus, complete, holds, firstBad, badField, badFields, isNone, orElse}
 use Rattle.kinds.specs.Codec.{Below, Fitting}
 
 -- ---- tests
@@ -268,3 +268,26 @@ pub wide-id : (hello wide : Bool) (id : ℕ) → id < 256 ^ 8
 wide-id true wide id h = refl
 wide-id false true id h = lt-leb (256 ^ 8) id h
 wide-id false false id h = refl
+
+-- ---- a rule that no number of a field breaks
+
+pub each-good : (ok : ℕ → Bool) (w n i at : ℕ) → isNone (firstBad ok w n i at) ≡ true → (k : ℕ) → k < n → ok (i + k) ≡ true
+each-good ok w zero i at e k h = absurd (omega arith)
+each-good ok w (suc n) i at e k h = go k h (good (ok i) e) (each-good ok w n (suc i) (at + w))
+  where
+    -- the first number keeps it, and so do those behind it
+    good : (b : Bool) → isNone (cond b (firstBad ok w n (suc i) (at + w)) (some at)) ≡ true → (b ≡ true) × (isNone (firstBad ok w n (suc i) (at + w)) ≡ true)
+    good true t = (refl, t)
+    good false t = absurd (false≢true t)
+
+    go : (k : ℕ) → k < suc n → (ok i ≡ true) × (isNone (firstBad ok w n (suc i) (at + w)) ≡ true)
+        → (isNone (firstBad ok w n (suc i) (at + w)) ≡ true → (k : ℕ) → k < n → ok (suc i + k) ≡ true) → ok (i + k) ≡ true
+    go zero l g ih = rw (add-zero i) (g .0)
+    go (suc k) l g ih = rw (add-suc i k, ← suc-add i k) (ih (g .1) k (omega arith))
+
+-- where no field breaks its rule, each number of the first keeps it
+pub first-good : (from : Side) (caps e : ℕ) (f : Field) (fs : List Field) (xs : List ℕ) (vs : List Value) (at : ℕ) → isNone (badFields from caps e (f ∷ fs) (some xs ∷ vs) at) ≡ true
+    → (k : ℕ) → k < f .times → holds (f .rule) from caps e xs k ≡ true
+first-good from caps e f fs xs vs at b k h =
+    let good = isNone-left (badField from caps e f (some xs) at) (badFields from caps e fs vs (at + sizeOf (shared caps) f)) b in
+    rw (← zero-add k) (each-good (holds (f .rule) from caps e xs) (f .width) (f .times) 0 at good k h)

@@ -4,7 +4,7 @@ use Prim.Native.Nat.{ℕ, zero, suc, _<_}
 use mathlib.Core.Path.{_≡_, refl, sym, ap, _∙_}
 use mathlib.Core.Bool.{Bool, true, false, cond, not, _&&_, true≢false, false≢true, and-false}
 use mathlib.Core.List.{List, [], _∷_}
-use mathlib.Core.Option.{none}
+use mathlib.Core.Option.{none, some}
 use native.Mathlib.Omega.{arith}
 use lib.ListN.{length, getD, set, replicate, length-set, length-replicate, getD-replicate}
 use lib.Seq.{getD-set-same, getD-set-other}
@@ -16,12 +16,13 @@ use Rattle.device.specs.declared.Scope.{Scope}
 use Rattle.device.specs.declared.Scope.the-variants.{Nowhere}
 use Rattle.device.specs.Device.{touched}
 use Rattle.scan.specs.Scan.{exists, eachAt}
-use Rattle.scan.specs.Laws.{first-absent, exists-at, exists-not, getD-set, each-at, each-length, each-same}
+use Rattle.scan.specs.Laws.{first-found, first-lowest, first-absent, first-none, exists-at, exists-not, getD-set, each-at, each-length, each-same, each-anywhere}
 use Rattle.requests.specs.declared.Request.{Request}
 use Rattle.requests.specs.declared.Place.{Place}
 use Rattle.requests.specs.declared.Requests.{Requests}
+use Rattle.requests.specs.declared.Query.{Query}
 use Rattle.requests.specs.declared.Query.the-variants.{Id}
-use Rattle.requests.specs.Requests.{freePlace, freshRequests, isData, taken, hasId, lowest, placeAt, withPlace, ends, keptOf, released, clashes, idsDiffer}
+use Rattle.requests.specs.Requests.{freePlace, freshRequests, isData, taken, meets, hasId, lowest, placeAt, withPlace, ends, keptOf, released, clashes, idsDiffer}
 
 -- ---- what a change leaves
 
@@ -197,3 +198,27 @@ kept-nowhere rows i p = rw (and-false (p .live && isData (p .request .kind)))
 pub released-nowhere : (t : Requests) (rows : Rows) → released t rows Nowhere ≡ t
 unfolding released
 released-nowhere t rows = λ j. record { places = each-same (keptOf rows Nowhere) (kept-nowhere rows) (t .places) 0 j }
+
+-- ---- what ends, at every place
+
+pub released-at : (t : Requests) (rows : Rows) (s : Scope) (j : ℕ) → placeAt (released t rows s) j ≡ cond (ends rows s (placeAt t j)) freePlace (placeAt t j)
+unfolding released
+released-at t rows s j = each-anywhere (keptOf rows s) freePlace (λ i. refl) (t .places) 0 j
+
+-- ---- the lowest place that meets a query
+
+module _ (t : Requests) (q : Query) where
+  -- it stands in the table and meets it
+  pub lowest-found : (i : ℕ) → lowest t q ≡ some i → (i < length (t .places)) × (meets q (placeAt t i) ≡ true)
+  unfolding lowest
+  lowest-found i e = first-found (meets q) (t .places) i freePlace e
+
+  -- no lower one does
+  pub lowest-lower : (i : ℕ) → lowest t q ≡ some i → (j : ℕ) → j < i → meets q (placeAt t j) ≡ false
+  unfolding lowest
+  lowest-lower i e = first-lowest (meets q) (t .places) i freePlace e
+
+  -- where no place meets it, none is found
+  pub lowest-none : ((j : ℕ) → j < length (t .places) → meets q (placeAt t j) ≡ false) → lowest t q ≡ none
+  unfolding lowest
+  lowest-none h = first-none (meets q) (t .places) freePlace h

@@ -158,3 +158,20 @@ module _ {A : Type 0} (p : ℕ → A → Bool) where
   any-not (x ∷ xs) i d f =
       rw (sym (ap (λ (m : ℕ). p m x) (add-zero i)) ∙ f 0 (omega arith))
       (any-not xs (suc i) d (λ k h. rw (suc-add i k, ← add-suc i k) (f (suc k) (omega arith))))
+
+-- ---- a search that finds none
+
+pub first-none : {A : Type 0} (p : A → Bool) (l : List A) (d : A) → ((j : ℕ) → j < length l → p (getD l j d) ≡ false) → firstAt p 0 l ≡ none
+first-none p l d h = go (firstAt p 0 l) refl
+  where
+    go : (o : Option ℕ) → firstAt p 0 l ≡ o → firstAt p 0 l ≡ none
+    go none q = q
+    go (some i) q = let f = first-found p l i d q in absurd (true≢false (sym (f .1) ∙ h i (f .0)))
+
+-- ---- a change that leaves the default as it is: each element is changed, also past the end
+
+pub each-anywhere : {A : Type 0} (f : ℕ → A → A) (d : A) → ((i : ℕ) → f i d ≡ d) → (l : List A) (i k : ℕ) → getD (eachAt f i l) k d ≡ f (i + k) (getD l k d)
+unfolding eachAt
+each-anywhere f d h [] i k = sym (h (i + k))
+each-anywhere f d h (x ∷ xs) i zero = rw (add-zero i)
+each-anywhere f d h (x ∷ xs) i (suc k) = rw (add-suc i k, ← suc-add i k) (each-anywhere f d h xs (suc i) k)

@@ -1,0 +1,502 @@
+-- What a packet does to a session: a refused one changes nothing; a request takes the lowest free place; a reply frees the place of
+-- the request that it answers, and no second reply finds it; a late reply answers nothing; any other packet leaves the requests as
+-- they were or ends them all.
+-- The judge's number is 0 only where no check holds, and then the session is the next one. What that does to the requests goes by
+-- four roles of a class, and what stands at a place afterwards by the laws of the table.
+-- Assumes nothing.
+use Prim.Native.Nat.{ℕ, _≤_, _<_}
+use mathlib.Core.Bool.{Bool, true, false, cond, not, _&&_, _||_, false≢true, true≢false}
+use mathlib.Core.List.{List, [], _∷_}
+use mathlib.Core.Logic.{_⊎_, inl, inr}
+use mathlib.Core.Option.{Option, none, some}
+use mathlib.Core.Path.{_≡_, refl, sym, ap, _∙_}
+use native.Mathlib.Omega.{arith}
+use lib.ListN.{length}
+use lib.Dec.{eqb}
+use borrow.Author.Tests.{eqb-true, eqb-false, ne-eqb, ltb-false, not-true, not-false}
+use borrow.Table.Steps.{cases}
+use Rattle.header.specs.declared.Side.{Side}
+use Rattle.header.specs.declared.Side.the-variants.{Guest, Host}
+use Rattle.header.specs.declared.Link.{Link}
+use Rattle.header.specs.Link.{sharedSet}
+use Rattle.kinds.specs.Table.{Kind, kinds}
+use Rattle.kinds.specs.Content.{Content, shared, find}
+use Rattle.kinds.specs.Number.{isGuest, sends, surplus, wideId, sizeOk, bad, isNone, streamsAlone, kindNumber, byKind, wireNumber}
+use Rattle.kinds.specs.RoundTrip.{none-holds}
+use Rattle.device.specs.declared.Device.{Device}
+use Rattle.device.specs.declared.Scope.the-variants.{Nowhere}
+use Rattle.requests.specs.declared.Place.{Place}
+use Rattle.requests.specs.declared.Request.{Request}
+use Rattle.requests.specs.declared.Requests.{Requests}
+use Rattle.requests.specs.declared.Query.{Query}
+use Rattle.requests.specs.declared.Query.the-variants.{Free, Answered}
+use Rattle.requests.specs.Requests.{noRequest, freePlace, taken, freshRequests, meets, answers, lowest, placeAt, withPlace, ends, released, idsDiffer}
+use Rattle.requests.specs.Laws.{place-set, place-other, with-place-length, released-length, released-at, released-nowhere, differ-when, lowest-found, lowest-lower, lowest-none}
+use Rattle.events.specs.declared.Class.{Class}
+use Rattle.events.specs.declared.Class.the-variants.{Hello, Connect, Interfaces, Endpoints, Disconnect, Reset, Ack, Cancel, Filter, StartRequest, PlainRequest, StreamStatus, PlainReply, StreamData}
+use Rattle.events.specs.declared.Event.{Event}
+use Rattle.events.specs.Event.{eventOf}
+use Rattle.checks.specs.declared.Match.{Match}
+use Rattle.checks.specs.declared.Match.the-variants.{Unmatched, Matched}
+use Rattle.checks.specs.Checks.{traitsOf, isSome, outOfOrder, matchIn, matchOf, isUnmatched, isUnsolicited, tooLong, numberFor, numberOf}
+use Rattle.session.specs.declared.Session.{Session}
+use Rattle.session.specs.Step.{scopeOf, asked, takenAt, answered, requestsAfter, nextFor, judged}
+use Rattle.claims.specs.Logic.{and-parts, fails}
+use Rattle.claims.specs.Allowed.{among, isReply, inwardOf}
+use Rattle.claims.specs.Agree.{Facts, agrees}
+use Rattle.claims.specs.Passes.{Quiet, quiet}
+
+-- the session after a packet
+abbrev pub after : Session → Event → Session
+after s e = judged s e .session
+
+-- ---- the judge
+
+module _ (s : Session) (e : Event) where
+  -- the number is that of the session checks
+  pub number-is : judged s e .number ≡ numberOf (s .device) (s .requests) e
+  unfolding judged numberOf
+  number-is =
+      let n = numberFor (s .device) (s .requests) e (matchOf (s .requests) e) in
+      cases (eqb n 0) (λ t. rw t (sym (eqb-true n 0 t))) (λ t. rw t)
+
+  -- a refused packet changes nothing
+  pub refused : (judged s e .number ≡ 0 → ⊥) → judged s e .session ≡ s
+  unfolding judged
+  refused h = cases (eqb (numberFor (s .device) (s .requests) e (matchOf (s .requests) e)) 0) (λ t. absurd (h (rw t))) (λ t. rw t)
+
+  -- one that passes does what the rules say of it
+  pub passed : judged s e .number ≡ 0 → judged s e .session ≡ nextFor s e (matchOf (s .requests) e)
+  unfolding judged numberOf
+  passed z =
+      let n = numberFor (s .device) (s .requests) e (matchOf (s .requests) e) in
+      cases (eqb n 0) (λ t. rw t) (λ t. absurd (eqb-false n 0 t (sym number-is ∙ z)))
+
+  -- so what holds before a packet, and after it where it passes, holds after it
+  pub step : (P : Session → Type 0) → P s → (judged s e .number ≡ 0 → P (nextFor s e (matchOf (s .requests) e))) → P (judged s e .session)
+  step P here next =
+      let n = judged s e .number in
+      cases (eqb n 0) (λ t. let z = eqb-true n 0 t in rw (passed z) (next z)) (λ t. rw (refused (eqb-false n 0 t)) here)
+
+-- ---- what a packet of a class does with the requests
+
+-- it leaves them, takes a place, frees one, or ends them all
+pub data Role : Type 0 where
+  leaving asking answering ending : Role
+
+abbrev pub roleOf : Class → Role
+roleOf Hello = leaving
+roleOf Connect = leaving
+roleOf Interfaces = leaving
+roleOf Endpoints = leaving
+roleOf Disconnect = ending
+roleOf Reset = ending
+roleOf Ack = leaving
+roleOf Cancel = leaving
+roleOf Filter = leaving
+roleOf StartRequest = asking
+roleOf PlainRequest = asking
+roleOf StreamStatus = answering
+roleOf PlainReply = answering
+roleOf StreamData = leaving
+
+-- it takes a place
+abbrev pub isAsking : Role → Bool
+isAsking leaving = false
+isAsking asking = true
+isAsking answering = false
+isAsking ending = false
+
+-- it answers a request
+abbrev pub isAnswering : Role → Bool
+isAnswering leaving = false
+isAnswering asking = false
+isAnswering answering = true
+isAnswering ending = false
+
+-- it leaves them
+abbrev pub isLeaving : Role → Bool
+isLeaving leaving = true
+isLeaving asking = false
+isLeaving answering = false
+isLeaving ending = false
+
+-- hello, connect, interfaces, endpoints, ack, cancel, filter and data on a stream
+abbrev pub leavesRequests : Class → Bool
+leavesRequests c = isLeaving (roleOf c)
+
+-- the requests after a packet of this role
+abbrev pub requestsBy : Role → Session → Event → Match → Requests
+requestsBy leaving s e m = s .requests
+requestsBy asking s e m = asked (s .requests) (e .request)
+requestsBy answering s e m = answered (s .requests) (s .device .rows) e m
+requestsBy ending s e m = freshRequests
+
+-- a reply needs a device; of its order, type, row and stream nothing is asked
+abbrev pub Unasked : Class → Role → Type 0
+Unasked c leaving = Unit {0}
+Unasked c asking = Unit {0}
+Unasked c answering =
+    (d : Device) → (traitsOf c .device ≡ true) × (traitsOf c .introduces ≡ false) × (outOfOrder d c ≡ false) × (traitsOf c .typed ≡ false) × (traitsOf c .streamed ≡ false)
+Unasked c ending = Unit {0}
+
+-- what the checks ask of a class of this role, and what it does
+abbrev pub Does : Class → Role → Type 0
+Does c r =
+    (traitsOf c .request ≡ isAsking r) × (traitsOf c .reply ≡ isAnswering r) × Unasked c r × ((s : Session) (e : Event) (m : Match) → requestsAfter c s e m ≡ requestsBy r s e m)
+
+pub does : (c : Class) → Does c (roleOf c)
+does Hello = (refl, refl, tt, λ s e m. refl)
+does Connect = (refl, refl, tt, λ s e m. refl)
+does Interfaces = (refl, refl, tt, λ s e m. refl)
+does Endpoints = (refl, refl, tt, λ s e m. refl)
+does Disconnect = (refl, refl, tt, λ s e m. refl)
+does Reset = (refl, refl, tt, λ s e m. refl)
+does Ack = (refl, refl, tt, λ s e m. refl)
+does Cancel = (refl, refl, tt, λ s e m. refl)
+does Filter = (refl, refl, tt, λ s e m. refl)
+does StartRequest = (refl, refl, tt, λ s e m. refl)
+does PlainRequest = (refl, refl, tt, λ s e m. refl)
+does StreamStatus = (refl, refl, λ d. (refl, refl, refl, refl, refl), λ s e m. refl)
+does PlainReply = (refl, refl, λ d. (refl, refl, refl, refl, refl), λ s e m. refl)
+does StreamData = (refl, refl, tt, λ s e m. refl)
+
+-- so a class that takes a place has that role, and the same for the other two
+asks : (c : Class) → traitsOf c .request ≡ true → Does c asking
+asks c h = go (roleOf c) (does c)
+  where
+    go : (r : Role) → Does c r → Does c asking
+    go leaving d = absurd (true≢false (sym h ∙ d .0))
+    go asking d = d
+    go answering d = absurd (true≢false (sym h ∙ d .0))
+    go ending d = absurd (true≢false (sym h ∙ d .0))
+
+replies : (c : Class) → traitsOf c .reply ≡ true → Does c answering
+replies c h = go (roleOf c) (does c)
+  where
+    go : (r : Role) → Does c r → Does c answering
+    go leaving d = absurd (true≢false (sym h ∙ d .1))
+    go asking d = absurd (true≢false (sym h ∙ d .1))
+    go answering d = d
+    go ending d = absurd (true≢false (sym h ∙ d .1))
+
+leaves : (c : Class) → leavesRequests c ≡ true → Does c leaving
+leaves c h = go (roleOf c) h (does c)
+  where
+    go : (r : Role) → isLeaving r ≡ true → Does c r → Does c leaving
+    go leaving l d = d
+    go asking l d = absurd (false≢true l)
+    go answering l d = absurd (false≢true l)
+    go ending l d = absurd (false≢true l)
+
+module _ (s : Session) (e : Event) (r : Role) (d : Does (e .class) r) where
+  -- the requests after a packet, by the role of its class
+  pub next-requests : nextFor s e (matchOf (s .requests) e) .requests ≡ requestsBy r s e (matchOf (s .requests) e)
+  unfolding nextFor
+  next-requests = d .3 s e (matchOf (s .requests) e)
+
+  -- the same of the session that the judge answers with
+  requests-passed : judged s e .number ≡ 0 → after s e .requests ≡ requestsBy r s e (matchOf (s .requests) e)
+  requests-passed z = ap (λ (x : Session). x .requests) (passed s e z) ∙ next-requests
+
+  -- where they stay as they are by its role, they do so whether it passes or not
+  requests-kept : requestsBy r s e (matchOf (s .requests) e) ≡ s .requests → after s e .requests ≡ s .requests
+  requests-kept k = step s e (λ (x : Session). x .requests ≡ s .requests) refl (λ z. next-requests ∙ k)
+
+-- no check holds of a packet that passes
+pub calm : (s : Session) (e : Event) → judged s e .number ≡ 0 → Quiet (s .device) (s .requests) e (matchOf (s .requests) e)
+unfolding numberOf
+calm s e z = quiet (s .device) (s .requests) e (matchOf (s .requests) e) (sym (number-is s e) ∙ z)
+
+-- ---- packets that are neither a request nor a reply
+
+-- hello, connect, interfaces, endpoints, ack, cancel, filter and data on a stream leave the requests as they were
+pub others-keep : (s : Session) (e : Event) → leavesRequests (e .class) ≡ true → after s e .requests ≡ s .requests
+others-keep s e h = requests-kept s e leaving (leaves (e .class) h) refl
+
+-- a disconnect or a reset that passes ends every request
+pub frees-all : (s : Session) (e : Event) → (e .class ≡ Disconnect) ⊎ (e .class ≡ Reset) → judged s e .number ≡ 0 → after s e .requests ≡ freshRequests
+frees-all s e (inl h) z = requests-passed s e ending (rw h (does Disconnect)) z
+frees-all s e (inr h) z = requests-passed s e ending (rw h (does Reset)) z
+
+-- ---- a request
+
+pub record Taken (s : Session) (e : Event) : Type 0 where
+  -- a place of the table
+  pub place : ℕ
+  pub within : place < length (s .requests .places)
+  -- it was free
+  pub free : placeAt (s .requests) place .live ≡ false
+  -- every lower place was taken
+  pub lower : (j : ℕ) → j < place → placeAt (s .requests) j .live ≡ true
+  -- now it holds the request
+  pub holds : placeAt (after s e .requests) place ≡ taken (e .request)
+  -- every other place is as before
+  pub others : (j : ℕ) → (j ≡ place → ⊥) → placeAt (after s e .requests) j ≡ placeAt (s .requests) j
+
+-- a request that passes takes the lowest free place
+pub request-takes : (s : Session) (e : Event) → traitsOf (e .class) .request ≡ true → judged s e .number ≡ 0 → Taken s e
+request-takes s e h z = go (lowest t Free) refl room (requests-passed s e asking (asks (e .class) h) z)
+  where
+    t : Requests
+    t = s .requests
+
+    room : isSome (lowest t Free) ≡ true
+    room = not-false (isSome (lowest t Free)) (fails (traitsOf (e .class) .request) (not (isSome (lowest t Free))) (calm s e z .room) h)
+
+    go : (o : Option ℕ) → lowest t Free ≡ o → isSome o ≡ true → after s e .requests ≡ takenAt t (e .request) o → Taken s e
+    go none f g a = absurd (false≢true g)
+    go (some i) f g a =
+        let found = lowest-found t Free i f in
+        record {
+          place = i;
+          within = found .0;
+          free = not-true (placeAt t i .live) (found .1);
+          lower = λ j l. not-false (placeAt t j .live) (lowest-lower t Free i f j l);
+          holds = ap (λ (x : Requests). placeAt x i) a ∙ place-set t i (taken (e .request)) (found .0);
+          others = λ j n. ap (λ (x : Requests). placeAt x j) a ∙ place-other t i j (taken (e .request)) (λ k. n (sym k));
+        }
+
+-- ---- a reply
+
+-- the place and the request of a match
+abbrev placeIn : Match → ℕ
+placeIn Unmatched = 0
+placeIn (Matched i q) = i
+
+abbrev requestIn : Match → Request
+requestIn Unmatched = noRequest
+requestIn (Matched i q) = q
+
+-- a match is of the place that was found and the request there
+match-in : (t : Requests) (o : Option ℕ) (i : ℕ) (q : Request) → matchIn t o ≡ Matched i q → (o ≡ some i) × (placeAt t i .request ≡ q)
+match-in t none i q m = absurd (true≢false (ap isUnmatched m))
+match-in t (some j) i q m = let k : j ≡ i = ap placeIn m in (ap some k, ap (λ (n : ℕ). placeAt t n .request) (sym k) ∙ ap requestIn m)
+
+-- the place that a reply matches is of a live request, which it answers
+record Found (t : Requests) (e : Event) (i : ℕ) (q : Request) : Type 0 where
+  reply : traitsOf (e .class) .reply ≡ true
+  within : i < length (t .places)
+  live : placeAt t i .live ≡ true
+  request : placeAt t i .request ≡ q
+  answered : answers (e .request) (e .answers) q ≡ true
+
+match-found : (t : Requests) (e : Event) (i : ℕ) (q : Request) → matchOf t e ≡ Matched i q → Found t e i q
+unfolding matchOf
+match-found t e i q m = cases (traitsOf (e .class) .reply) there (λ h. absurd (true≢false (ap isUnmatched (rw h at m))))
+  where
+    there : traitsOf (e .class) .reply ≡ true → Found t e i q
+    there h =
+        let r = match-in t (lowest t (Answered (e .request) (e .answers))) i q (rw h at m) in
+        let f = lowest-found t (Answered (e .request) (e .answers)) i (r .0) in
+        let l = and-parts (placeAt t i .live) (answers (e .request) (e .answers) (placeAt t i .request)) (f .1) in
+        record { reply = h; within = f .0; live = l .0; request = r .1; answered = ap (answers (e .request) (e .answers)) (sym (r .1)) ∙ l .1 }
+
+pub record Freed (s : Session) (e : Event) (i : ℕ) (q : Request) : Type 0 where
+  -- the place is one of the table, and q was live there
+  pub within : i < length (s .requests .places)
+  pub live : placeAt (s .requests) i .live ≡ true
+  pub request : placeAt (s .requests) i .request ≡ q
+  -- the reply answers it, and is not longer than it asked for
+  pub answered : answers (e .request) (e .answers) q ≡ true
+  pub short : e .request .length ≤ q .length
+  -- now the place is free
+  pub freed : placeAt (after s e .requests) i ≡ freePlace
+  -- any other place is free too where it ends the data request there, and else as before
+  pub others : (j : ℕ) → (j ≡ i → ⊥) → placeAt (after s e .requests) j ≡ cond (ends (s .device .rows) (scopeOf e (Matched i q)) (placeAt (s .requests) j)) freePlace (placeAt (s .requests) j)
+
+-- no live request has this id
+abbrev pub NoLive : Requests → ℕ → Type 0
+NoLive t n = (j : ℕ) → j < length (t .places) → placeAt t j .live ≡ true → placeAt t j .request .id ≡ n → ⊥
+
+-- a reply has the id of a request that it answers
+same-id : (e : Event) (q : Request) → answers (e .request) (e .answers) q ≡ true → q .id ≡ e .request .id
+same-id e q h = eqb-true (q .id) (e .request .id) (and-parts _ _ (and-parts _ _ h .0) .0)
+
+-- where no live request has its id it matches none
+no-match : (t : Requests) (e : Event) → NoLive t (e .request .id) → matchOf t e ≡ Unmatched
+unfolding matchOf
+no-match t e n = cases (traitsOf (e .class) .reply) (λ h. rw h (ap (matchIn t) (lowest-none t query unmet))) (λ h. rw h)
+  where
+    query : Query
+    query = Answered (e .request) (e .answers)
+
+    unmet : (j : ℕ) → j < length (t .places) → meets query (placeAt t j) ≡ false
+    unmet j l =
+        cases (meets query (placeAt t j))
+        (λ h. let r = and-parts (placeAt t j .live) _ h in absurd (n j l (r .0) (same-id e (placeAt t j .request) (r .1))))
+        (λ h. h)
+
+-- of a reply that passes and matches the request q at place i
+module _ (s : Session) (e : Event) (i : ℕ) (q : Request) (z : judged s e .number ≡ 0) (m : matchOf (s .requests) e ≡ Matched i q) where
+  found : Found (s .requests) e i q
+  found = match-found (s .requests) e i q m
+
+  -- the table after it, and each place of it
+  replied : after s e .requests ≡ released (withPlace (s .requests) i freePlace) (s .device .rows) (scopeOf e (Matched i q))
+  replied = requests-passed s e answering (replies (e .class) (found .reply)) z ∙ ap (answered (s .requests) (s .device .rows) e) m
+
+  place-after : (j : ℕ) (p : Place) → placeAt (withPlace (s .requests) i freePlace) j ≡ p
+      → placeAt (after s e .requests) j ≡ cond (ends (s .device .rows) (scopeOf e (Matched i q)) p) freePlace p
+  place-after j p h =
+      ap (λ (x : Requests). placeAt x j) replied
+      ∙ released-at (withPlace (s .requests) i freePlace) (s .device .rows) (scopeOf e (Matched i q)) j
+      ∙ ap (λ (x : Place). cond (ends (s .device .rows) (scopeOf e (Matched i q)) x) freePlace x) h
+
+  -- it frees that place
+  pub reply-frees : Freed s e i q
+  reply-frees =
+      record {
+        within = found .within;
+        live = found .live;
+        request = found .request;
+        answered = found .answered;
+        short = ltb-false (q .length) (e .request .length) (sym (ap (tooLong e) m) ∙ calm s e z .short);
+        freed = place-after i freePlace (place-set (s .requests) i freePlace (found .within));
+        others = λ j n. place-after j (placeAt (s .requests) j) (place-other (s .requests) i j freePlace (λ k. n (sym k)));
+      }
+
+  -- it frees no other place, unless it says 0 to a set configuration (6) or a set alt (9)
+  pub no-other-freed : (e .status ≡ 0 → ⊥) ⊎ ((q .kind ≡ 6 → ⊥) × (q .kind ≡ 9 → ⊥)) → (j : ℕ) → (j ≡ i → ⊥) → placeAt (after s e .requests) j ≡ placeAt (s .requests) j
+  no-other-freed h j n =
+      ap (λ (x : Requests). placeAt x j) (replied ∙ ap (released u (s .device .rows)) (nowhere h) ∙ released-nowhere u (s .device .rows))
+      ∙ place-other (s .requests) i j freePlace (λ k. n (sym k))
+    where
+      u : Requests
+      u = withPlace (s .requests) i freePlace
+
+      nowhere : (e .status ≡ 0 → ⊥) ⊎ ((q .kind ≡ 6 → ⊥) × (q .kind ≡ 9 → ⊥)) → scopeOf e (Matched i q) ≡ Nowhere
+      nowhere (inl a) = rw (ne-eqb (e .status) 0 a)
+      nowhere (inr a) = rw (ne-eqb (q .kind) 6 (a .0), ne-eqb (q .kind) 9 (a .1)) (cases (eqb (e .status) 0) (λ b. rw b) (λ b. rw b))
+
+  -- where the ids of live requests differ, none with its id is live after it
+  pub answered-once : idsDiffer (s .requests .places) ≡ true → NoLive (after s e .requests) (e .request .id)
+  answered-once d j l v n = cases (eqb j i) here there
+    where
+      t : Requests
+      t = s .requests
+
+      here : eqb j i ≡ true → ⊥
+      here k =
+          let w : placeAt (after s e .requests) j ≡ freePlace = rw (eqb-true j i k) (reply-frees .freed) in
+          false≢true (sym (ap (λ (x : Place). x .live) w) ∙ v)
+
+      long : j < length (t .places)
+      long = rw (replied, released-length, with-place-length) at l
+
+      other : (b : Bool) → placeAt (after s e .requests) j ≡ cond b freePlace (placeAt t j) → i ≡ j
+      other true w = absurd (false≢true (sym (ap (λ (x : Place). x .live) w) ∙ v))
+      other false w =
+          differ-when (t .places) d i j (found .within) long (found .live) (sym (ap (λ (x : Place). x .live) w) ∙ v)
+          (ap (λ (x : Request). x .id) (found .request) ∙ same-id e q (found .answered) ∙ sym n ∙ ap (λ (x : Place). x .request .id) w)
+
+      there : eqb j i ≡ false → ⊥
+      there k = eqb-false j i k (sym (other (ends (s .device .rows) (scopeOf e (Matched i q)) (placeAt t j)) (reply-frees .others j (eqb-false j i k))))
+
+  -- so the same reply matches nothing when it comes again
+  pub again-unmatched : idsDiffer (s .requests .places) ≡ true → matchOf (after s e .requests) e ≡ Unmatched
+  again-unmatched d = no-match (after s e .requests) e (answered-once d)
+
+-- a reply that matches nothing leaves the requests as they were
+pub unmatched-keeps : (s : Session) (e : Event) → traitsOf (e .class) .reply ≡ true → matchOf (s .requests) e ≡ Unmatched → after s e .requests ≡ s .requests
+unmatched-keeps s e h m = requests-kept s e answering (replies (e .class) h) (ap (answered (s .requests) (s .device .rows) e) m)
+
+-- ---- a late reply
+
+-- of the checks only 25 and 33 are left for a host's reply that matches nothing
+late-number : (d : Device) (t : Requests) (e : Event) → traitsOf (e .class) .reply ≡ true → isGuest (e .sender) ≡ false
+    → numberFor d t e Unmatched ≡ cond (not (d .present)) 25 (cond (not (isUnsolicited e)) 33 0)
+unfolding numberFor
+late-number d t e h g =
+    let r = replies (e .class) h in
+    let u = r .2 d in
+    rw (u .0, u .1, u .2, u .3, u .4, r .0, h, g)
+
+pub record Late (s : Session) (e : Event) : Type 0 where
+  -- it matches no request
+  pub unmatched : matchOf (s .requests) e ≡ Unmatched
+  -- without a device it is refused with 25
+  pub absent : s .device .present ≡ false → judged s e .number ≡ 25
+  -- with one it is refused with 33, but for an unsolicited status, which passes
+  pub unanswered : s .device .present ≡ true → isUnsolicited e ≡ false → judged s e .number ≡ 33
+  pub unsolicited : s .device .present ≡ true → isUnsolicited e ≡ true → judged s e .number ≡ 0
+  -- in any case the requests are as before
+  pub kept : after s e .requests ≡ s .requests
+
+-- a host's reply for which no request with its id is live
+pub late-reply : (s : Session) (e : Event) → traitsOf (e .class) .reply ≡ true → isGuest (e .sender) ≡ false → NoLive (s .requests) (e .request .id) → Late s e
+unfolding numberOf
+late-reply s e h g n =
+    let m : matchOf (s .requests) e ≡ Unmatched = no-match (s .requests) e n in
+    let w : judged s e .number ≡ cond (not (s .device .present)) 25 (cond (not (isUnsolicited e)) 33 0) =
+    number-is s e ∙ ap (numberFor (s .device) (s .requests) e) m ∙ late-number (s .device) (s .requests) e h g in
+    record {
+      unmatched = m;
+      absent = λ a. w ∙ rw a;
+      unanswered = λ a u. w ∙ rw (a, u);
+      unsolicited = λ a u. w ∙ rw (a, u);
+      kept = unmatched-keeps s e h m;
+    }
+
+-- ---- a packet that the wire checks pass
+
+-- it is of a kind that its sender may send, and keeps the rules of its fields
+pub record Clean (l : Link) (p : Content) : Type 0 where
+  pub kind : Kind
+  pub found : find (p .kind) kinds ≡ some kind
+  pub sender : sends (kind .sender) (l .sender) ≡ true
+  pub rules : isNone (bad (l .sender) (sharedSet l) kind p) ≡ true
+
+pub clean : (l : Link) (p : Content) → wireNumber l p ≡ 0 → Clean l p
+unfolding wireNumber kindNumber
+clean l p z = go (find (p .kind) kinds) refl z
+  where
+    go : (o : Option Kind) → find (p .kind) kinds ≡ o → byKind l o p ≡ 0 → Clean l p
+    go none f n = absurd (omega (arith, n))
+    go (some k) f n =
+        let caps = sharedSet l in
+        let h =
+        none-holds (not (sends (k .sender) (l .sender)))
+        (not (shared caps (k .needs)) || surplus caps (k .fields) (p .fields) || wideId l p)
+        (not (sizeOk (l .sender) k p))
+        (not (isNone (bad (l .sender) caps k p)))
+        (streamsAlone (k .tail) (p .rest)) n in
+        record { kind = k; found = f; sender = not-false (sends (k .sender) (l .sender)) (h .0); rules = not-false (isNone (bad (l .sender) (sharedSet l) k p)) (h .3) }
+
+-- the guest may not send it
+abbrev unsent : Option Kind → Bool
+unsent none = true
+unsent (some k) = not (sends (k .sender) Guest)
+
+-- none of these kinds
+abbrev allUnsent : List ℕ → Bool
+allUnsent [] = true
+allUnsent (n ∷ ns) = unsent (find n kinds) && allUnsent ns
+
+unsent-among : (ns : List ℕ) (n : ℕ) → allUnsent ns ≡ true → among ns n ≡ true → unsent (find n kinds) ≡ true
+unsent-among [] n a h = absurd (false≢true h)
+unsent-among (k ∷ ns) n a h =
+    let b = and-parts (unsent (find k kinds)) (allUnsent ns) a in
+    cases (eqb n k) (λ t. rw (eqb-true n k t) (b .0)) (λ t. unsent-among ns n (b .1) (rw t at h))
+
+-- nor any kind that would be a guest's reply
+replies-unsent : (n : ℕ) (inward : Bool) → isReply Guest n inward ≡ true → unsent (find n kinds) ≡ true
+unfolding kinds
+replies-unsent n inward h = cases (among ns n) (λ a. unsent-among ns n refl a) (λ a. absurd (false≢true (rw a at h)))
+  where
+    ns : List ℕ
+    ns = 8 ∷ 11 ∷ 14 ∷ 17 ∷ 20 ∷ 27 ∷ []
+
+-- its replies are the host's
+pub from-host : (l : Link) (p : Content) → wireNumber l p ≡ 0 → traitsOf (eventOf (l .sender) p .class) .reply ≡ true → isGuest (eventOf (l .sender) p .sender) ≡ false
+unfolding eventOf
+from-host l p z h =
+    let c : Clean l p = clean l p z in
+    go (l .sender) (c .sender) (sym (ap (λ (f : Facts). f .reply) (agrees (l .sender) p (c .kind) (c .found) (c .sender))) ∙ h)
+  where
+    go : (from : Side) → sends (clean l p z .kind .sender) from ≡ true → isReply from (p .kind) (inwardOf p) ≡ true → isGuest from ≡ false
+    go Guest a r =
+        let c : Clean l p = clean l p z in
+        let u : not (sends (c .kind .sender) Guest) ≡ true = sym (ap unsent (c .found)) ∙ replies-unsent (p .kind) (inwardOf p) r in
+        absurd (true≢false (sym a ∙ not-true (sends (c .kind .sender) Guest) u))
+    go Host a r = refl
