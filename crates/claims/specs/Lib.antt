@@ -3,5 +3,6 @@ pub mod Allowed
 pub mod Agree
 pub mod Passes
 pub mod Steps
+pub mod Replies
 pub mod Kept
 pub mod Examples

@@ -195,13 +195,13 @@ open-is rows false t = refl
 -- ---- each check and its relation, for a packet whose event the lists describe
 
 module _ (s : Session) (from : Side) (p : Content) (a : factsOf (eventOf from p) ≡ factsBy from p) where
-  abbrev d : Device
+  abbrev pub d : Device
   d = s .device
 
-  abbrev t : Requests
+  abbrev pub t : Requests
   t = s .requests
 
-  abbrev e : Event
+  abbrev pub e : Event
   e = eventOf from p
 
   -- 25
@@ -342,7 +342,7 @@ module _ (s : Session) (from : Side) (p : Content) (a : factsOf (eventOf from p)
 
   -- 33, 34
 
-  abbrev query : Query
+  abbrev pub query : Query
   query = Answered (e .request) (e .answers)
 
   module _ (r : isReply from (p .kind) (inwardOf p) ≡ true) where
@@ -353,7 +353,7 @@ module _ (s : Session) (from : Side) (p : Content) (a : factsOf (eventOf from p)
     answers-is : (q : Request) → answers (e .request) (e .answers) q ≡ answersBy p q
     answers-is q = sym (rw replies) ∙ (λ i. a i .answers q) ∙ rw r
 
-    answers-to : (i : ℕ) → i < length (t .places) → meets query (placeAt t i) ≡ true → Answers t p i
+    pub answers-to : (i : ℕ) → i < length (t .places) → meets query (placeAt t i) ≡ true → Answers t p i
     answers-to i n m =
         let q = placeAt t i .request in
         let v = and-parts (placeAt t i .live) (answers (e .request) (e .answers) q) m in
@@ -373,16 +373,16 @@ module _ (s : Session) (from : Side) (p : Content) (a : factsOf (eventOf from p)
         and-whole (placeAt t i .live) _ (w .live)
         (answers-is q ∙ and-whole _ _ (and-whole _ _ (eq-eqb (q .id) (p .id) (w .id)) (w .kind)) (implying (carriesTarget (p .kind)) _ (λ c. eq-eqb (q .target) (replyTarget p) (w .target c))))
 
-    match-is : matchOf t e ≡ matchIn t (lowest t query)
+    pub match-is : matchOf t e ≡ matchIn t (lowest t query)
     unfolding matchOf
     match-is = rw replies
 
-    unsolicited-is : isUnsolicited e ≡ (among (14 ∷ 17 ∷ 27 ∷ []) (p .kind) && eqb (p .id) 0 && eqb (field "status" p) 4)
+    pub unsolicited-is : isUnsolicited e ≡ (among (14 ∷ 17 ∷ 27 ∷ []) (p .kind) && eqb (p .id) 0 && eqb (field "status" p) 4)
     unfolding eventOf
     unsolicited-is i = a i .unsolicited && eqb (p .id) 0 && eqb (field "status" p) 4
 
     -- nothing matches, and the reply passes: it is unsolicited
-    alone-to : lowest t query ≡ none → noSuchRequest e Unmatched ≡ false → Unsolicited t p
+    pub alone-to : lowest t query ≡ none → noSuchRequest e Unmatched ≡ false → Unsolicited t p
     alone-to o h =
         let u : isUnsolicited e ≡ true = not-false _ (fails (traitsOf (e .class) .reply && true) _ h (and-whole _ true replies refl)) in
         let w = and-parts (among (14 ∷ 17 ∷ 27 ∷ []) (p .kind) && eqb (p .id) 0) (eqb (field "status" p) 4) (sym unsolicited-is ∙ u) in
@@ -443,7 +443,7 @@ module _ (s : Session) (from : Side) (p : Content) (a : factsOf (eventOf from p)
       let m : matchOf t e ≡ Unmatched = rw n in
       (rw n, ap (tooLong e) m)
 
-  reply-from : idsDiffer (t .places) ≡ true → (isReply from (p .kind) (inwardOf p) ≡ true → ((i : ℕ) × Answers t p i × (countOf p ≤ placeAt t i .request .length)) ⊎ Unsolicited t p) → (noSuchRequest e (matchOf t e) ≡ false) × (tooLong e (matchOf t e) ≡ false)
+  pub reply-from : idsDiffer (t .places) ≡ true → (isReply from (p .kind) (inwardOf p) ≡ true → ((i : ℕ) × Answers t p i × (countOf p ≤ placeAt t i .request .length)) ⊎ Unsolicited t p) → (noSuchRequest e (matchOf t e) ≡ false) × (tooLong e (matchOf t e) ≡ false)
   reply-from u f = cases (isReply from (p .kind) (inwardOf p)) (λ r. go r (f r)) no-reply
     where
       go : isReply from (p .kind) (inwardOf p) ≡ true → ((i : ℕ) × Answers t p i × (countOf p ≤ placeAt t i .request .length)) ⊎ Unsolicited t p → (noSuchRequest e (matchOf t e) ≡ false) × (tooLong e (matchOf t e) ≡ false)

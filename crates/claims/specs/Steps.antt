@@ -162,8 +162,8 @@ does PlainReply = (refl, refl, λ d. (refl, refl, refl, refl, refl), λ s e m. r
 does StreamData = (refl, refl, tt, λ s e m. refl)
 
 -- so a class that takes a place has that role, and the same for the other two
-asks : (c : Class) → traitsOf c .request ≡ true → Does c asking
-asks c h = go (roleOf c) (does c)
+request-does : (c : Class) → traitsOf c .request ≡ true → Does c asking
+request-does c h = go (roleOf c) (does c)
   where
     go : (r : Role) → Does c r → Does c asking
     go leaving d = absurd (true≢false (sym h ∙ d .0))
@@ -171,8 +171,8 @@ asks c h = go (roleOf c) (does c)
     go answering d = absurd (true≢false (sym h ∙ d .0))
     go ending d = absurd (true≢false (sym h ∙ d .0))
 
-replies : (c : Class) → traitsOf c .reply ≡ true → Does c answering
-replies c h = go (roleOf c) (does c)
+pub reply-does : (c : Class) → traitsOf c .reply ≡ true → Does c answering
+reply-does c h = go (roleOf c) (does c)
   where
     go : (r : Role) → Does c r → Does c answering
     go leaving d = absurd (true≢false (sym h ∙ d .1))
@@ -180,8 +180,8 @@ replies c h = go (roleOf c) (does c)
     go answering d = d
     go ending d = absurd (true≢false (sym h ∙ d .1))
 
-leaves : (c : Class) → leavesRequests c ≡ true → Does c leaving
-leaves c h = go (roleOf c) h (does c)
+leaver-does : (c : Class) → leavesRequests c ≡ true → Does c leaving
+leaver-does c h = go (roleOf c) h (does c)
   where
     go : (r : Role) → isLeaving r ≡ true → Does c r → Does c leaving
     go leaving l d = d
@@ -212,7 +212,7 @@ calm s e z = quiet (s .device) (s .requests) e (matchOf (s .requests) e) (sym (n
 
 -- hello, connect, interfaces, endpoints, ack, cancel, filter and data on a stream leave the requests as they were
 pub others-keep : (s : Session) (e : Event) → leavesRequests (e .class) ≡ true → after s e .requests ≡ s .requests
-others-keep s e h = requests-kept s e leaving (leaves (e .class) h) refl
+others-keep s e h = requests-kept s e leaving (leaver-does (e .class) h) refl
 
 -- a disconnect or a reset that passes ends every request
 pub frees-all : (s : Session) (e : Event) → (e .class ≡ Disconnect) ⊎ (e .class ≡ Reset) → judged s e .number ≡ 0 → after s e .requests ≡ freshRequests
@@ -236,7 +236,7 @@ pub record Taken (s : Session) (e : Event) : Type 0 where
 
 -- a request that passes takes the lowest free place
 pub request-takes : (s : Session) (e : Event) → traitsOf (e .class) .request ≡ true → judged s e .number ≡ 0 → Taken s e
-request-takes s e h z = go (lowest t Free) refl room (requests-passed s e asking (asks (e .class) h) z)
+request-takes s e h z = go (lowest t Free) refl room (requests-passed s e asking (request-does (e .class) h) z)
   where
     t : Requests
     t = s .requests
@@ -334,7 +334,7 @@ module _ (s : Session) (e : Event) (i : ℕ) (q : Request) (z : judged s e .numb
 
   -- the table after it, and each place of it
   replied : after s e .requests ≡ released (withPlace (s .requests) i freePlace) (s .device .rows) (scopeOf e (Matched i q))
-  replied = requests-passed s e answering (replies (e .class) (found .reply)) z ∙ ap (answered (s .requests) (s .device .rows) e) m
+  replied = requests-passed s e answering (reply-does (e .class) (found .reply)) z ∙ ap (answered (s .requests) (s .device .rows) e) m
 
   place-after : (j : ℕ) (p : Place) → placeAt (withPlace (s .requests) i freePlace) j ≡ p
       → placeAt (after s e .requests) j ≡ cond (ends (s .device .rows) (scopeOf e (Matched i q)) p) freePlace p
@@ -399,7 +399,7 @@ module _ (s : Session) (e : Event) (i : ℕ) (q : Request) (z : judged s e .numb
 
 -- a reply that matches nothing leaves the requests as they were
 pub unmatched-keeps : (s : Session) (e : Event) → traitsOf (e .class) .reply ≡ true → matchOf (s .requests) e ≡ Unmatched → after s e .requests ≡ s .requests
-unmatched-keeps s e h m = requests-kept s e answering (replies (e .class) h) (ap (answered (s .requests) (s .device .rows) e) m)
+unmatched-keeps s e h m = requests-kept s e answering (reply-does (e .class) h) (ap (answered (s .requests) (s .device .rows) e) m)
 
 -- ---- a late reply
 
@@ -408,7 +408,7 @@ late-number : (d : Device) (t : Requests) (e : Event) → traitsOf (e .class) .r
     → numberFor d t e Unmatched ≡ cond (not (d .present)) 25 (cond (not (isUnsolicited e)) 33 0)
 unfolding numberFor
 late-number d t e h g =
-    let r = replies (e .class) h in
+    let r = reply-does (e .class) h in
     let u = r .2 d in
     rw (u .0, u .1, u .2, u .3, u .4, r .0, h, g)
 

@@ -1,0 +1,240 @@
+-- A late reply is never handed to another request. What is shown of a packet that came out of the wire checks:
+-- it passes exactly when it is allowed (`allowed-exactly`); a reply passes exactly when a live request matches it and is not shorter, or
+-- it is unsolicited (`reply-passes`); it is then handed to that one request, whose place it frees (`reply-handed`); after that no
+-- request with its id waits (`answered-for-good`); and where none does, it is refused and frees nothing (`late`).
+-- Assumes nothing.
+use Prim.Native.Nat.{ℕ, _≤_, _<_}
+use mathlib.Core.Bool.{Bool, true, false, cond, not, _&&_, false≢true, true≢false}
+use mathlib.Core.List.{List, [], _∷_}
+use mathlib.Core.Logic.{_↔_, _⊎_, inl, inr}
+use mathlib.Core.Option.{Option, none, some}
+use mathlib.Core.Path.{_≡_, refl, sym, ap, subst, _∙_}
+use lib.ListN.{length}
+use lib.Dec.{eqb, leb}
+use borrow.Author.Tests.{eqb-true, eq-eqb}
+use borrow.Table.Steps.{cases}
+use Rattle.endpoint.specs.declared.Endpoint.{Endpoint}
+use Rattle.header.specs.declared.Side.{Side}
+use Rattle.header.specs.declared.Side.the-variants.{Guest, Host}
+use Rattle.kinds.specs.Content.{Content}
+use Rattle.kinds.specs.Number.{isGuest, wireNumber}
+use Rattle.device.specs.declared.Rows.{Rows}
+use Rattle.device.specs.declared.Scope.{Scope}
+use Rattle.device.specs.declared.Scope.the-variants.{Nowhere, Everywhere, OfInterface}
+use Rattle.device.specs.Device.{touched}
+use Rattle.requests.specs.declared.Request.{Request}
+use Rattle.requests.specs.declared.Query.{Query}
+use Rattle.requests.specs.declared.Query.the-variants.{Free, Id, Settling, Answered}
+use Rattle.requests.specs.Requests.{freePlace, isData, answers, lowest, placeAt, ends, idsDiffer}
+use Rattle.requests.specs.Laws.{differ-when}
+use Rattle.events.specs.declared.Event.{Event}
+use Rattle.events.specs.Meaning.{meanings, lookUp}
+use Rattle.events.specs.Event.{field, meaningOf, targetOf, eventOf}
+use Rattle.checks.specs.declared.Match.the-variants.{Unmatched, Matched}
+use Rattle.checks.specs.Checks.{traitsOf, isSome, mistypedBy, isOpen, matchIn, matchOf, isUnsolicited, noSuchRequest, numberFor, numberOf}
+use Rattle.checks.specs.declared.Match.{Match}
+use Rattle.session.specs.declared.Session.{Session}
+use Rattle.session.specs.Session.{linkOf}
+use Rattle.session.specs.Step.{scopeOf, judged}
+use Rattle.claims.specs.Logic.{and-parts, and-whole, failing, or-none, false-not}
+use Rattle.claims.specs.Allowed.{among, oneOf, isReply, answersKind, carriesTarget, inwardOf, replyTarget, countOf, Answers, Unsolicited, Allowed}
+use Rattle.claims.specs.Agree.{Facts, factsOf, factsBy, agrees}
+use Rattle.claims.specs.Passes.{Quiet, silent, passes, answers-to, match-is, alone-to, reply-from, unsolicited-is}
+use Rattle.claims.specs.Steps.{after, number-is, clean, from-host, reply-does, calm, Freed, reply-frees, unmatched-keeps, NoLive, answered-once, Late, late-reply}
+
+-- ---- what is said of a reply
+
+-- the data request at place j ends with the one at place i: "8 with status 0 to a 6 frees every data request (kind 100, 101 or 103) ..
+-- 11 with status 0 to a 9 does so for rows other than 0 and 16 of that interface"
+pub record EndsToo (s : Session) (p : Content) (i j : ℕ) : Type 0 where
+  pub live : placeAt (s .requests) j .live ≡ true
+  pub kind : isData (placeAt (s .requests) j .request .kind) ≡ true
+  pub status : field "status" p ≡ 0
+  pub scope : (placeAt (s .requests) i .request .kind ≡ 6)
+      ⊎ ((placeAt (s .requests) i .request .kind ≡ 9)
+      × (touched (s .device .rows) (OfInterface (placeAt (s .requests) i .request .target)) (record { 0 = placeAt (s .requests) j .request .target }) ≡ true))
+
+-- the reply is handed to the request at place i
+pub record HandedTo (s : Session) (p : Content) (next : Session) (i : ℕ) : Type 0 where
+  -- a live one with its id, of a kind that it answers, on its endpoint or interface; and the reply is not longer
+  pub answers : Answers (s .requests) p i
+  pub short : countOf p ≤ placeAt (s .requests) i .request .length
+  -- no other live request has that id
+  pub only : (j : ℕ) → j < length (s .requests .places) → placeAt (s .requests) j .live ≡ true → placeAt (s .requests) j .request .id ≡ p .id → j ≡ i
+  -- its place is free, as at the start; every other place stays as it was, but for the data requests that end with a setting
+  pub freed : placeAt (next .requests) i ≡ freePlace
+  pub others : (j : ℕ) → (j ≡ i → ⊥) → (placeAt (next .requests) j ≡ placeAt (s .requests) j) ⊎ (EndsToo s p i j × (placeAt (next .requests) j ≡ freePlace))
+
+-- a reply to a session in which no request with its id waits
+pub record LateReply (s : Session) (from : Side) (p : Content) : Type 0 where
+  pub without-device : s .device .present ≡ false → judged s (eventOf from p) .number ≡ 25
+  pub refused : s .device .present ≡ true → (Unsolicited (s .requests) p → ⊥) → judged s (eventOf from p) .number ≡ 33
+  pub kept : judged s (eventOf from p) .session .requests ≡ s .requests
+
+-- ---- a reply to a set alt is an 11, and its interface is that of its request
+
+either : (kind n : ℕ) (a b : ℕ → Bool) → cond (eqb kind n) a b 9 ≡ true → a 9 ≡ false → (eqb kind n ≡ false) × (b 9 ≡ true)
+either kind n a b h f = cases (eqb kind n) (λ e. absurd (false≢true (sym f ∙ (rw e at h)))) (λ e. (e, rw e at h))
+
+alt-reply : (from : Side) (kind : ℕ) (inward : Bool) → isReply from kind inward ≡ true → answersKind kind 9 ≡ true → kind ≡ 11
+alt-reply from kind inward r h =
+    cases (eqb kind 11) (λ e. eqb-true kind 11 e) (λ e. absurd (other e))
+  where
+    own : (from : Side) → isReply from 9 inward ≡ true → ⊥
+    own Guest x = false≢true x
+    own Host x = false≢true x
+
+    other : eqb kind 11 ≡ false → ⊥
+    other e =
+        let a = either kind 8 (oneOf 6 7) _ h refl in
+        let b : cond (eqb kind 14) (oneOf 12 13) (cond (eqb kind 17) (oneOf 15 16) (cond (eqb kind 20) (oneOf 18 19) (cond (eqb kind 27) (oneOf 25 26) (oneOf kind kind)))) 9 ≡ true = rw e at (a .1) in
+        let c = either kind 14 (oneOf 12 13) _ b refl in
+        let d = either kind 17 (oneOf 15 16) _ (c .1) refl in
+        let f = either kind 20 (oneOf 18 19) _ (d .1) refl in
+        let g = either kind 27 (oneOf 25 26) _ (f .1) refl in
+        let k : 9 ≡ kind = cases (eqb 9 kind) (λ x. eqb-true 9 kind x) (λ x. absurd (false≢true (sym (or-none (eqb 9 kind) (eqb 9 kind) x x) ∙ g .1))) in
+        own from (subst (λ (n : ℕ). isReply from n inward ≡ true) (sym k) r)
+
+-- the endpoint or interface of an 11 is its interface
+alt-target : (from : Side) (p : Content) → p .kind ≡ 11 → eventOf from p .request .target ≡ field "interface" p
+unfolding eventOf meaningOf meanings
+alt-target from p k = ap (λ (n : ℕ). targetOf (lookUp meanings from n (inwardOf p) .about) p) k
+
+-- ---- of a packet that came out of the wire checks, to a session whose live requests have different ids
+
+module _ (s : Session) (from : Side) (p : Content) (w : wireNumber (linkOf from s) p ≡ 0) where
+  abbrev e : Event
+  e = eventOf from p
+
+  agreed : factsOf e ≡ factsBy from p
+  agreed = let c = clean (linkOf from s) p w in agrees from p (c .kind) (c .found) (c .sender)
+
+  -- demand 2 for the session checks
+  pub allowed-exactly : idsDiffer (s .requests .places) ≡ true → (judged s e .number ≡ 0) ↔ Allowed s from p
+  allowed-exactly u =
+      let c = clean (linkOf from s) p w in
+      let i = passes s from p (c .kind) (c .found) (c .sender) u in
+      (λ z. i .0 (sym (number-is s e) ∙ z), λ a. number-is s e ∙ i .1 a)
+
+  module _ (r : isReply from (p .kind) (inwardOf p) ≡ true) where
+    replying : traitsOf (e .class) .reply ≡ true
+    replying = (λ i. agreed i .reply) ∙ r
+
+    from-a-host : isGuest (e .sender) ≡ false
+    from-a-host = from-host (linkOf from s) p w replying
+
+    -- of a reply no check asks but 25, 33 and 34
+    pub reply-passes : idsDiffer (s .requests .places) ≡ true → s .device .present ≡ true
+        → (judged s e .number ≡ 0) ↔ (((i : ℕ) × Answers (s .requests) p i × (countOf p ≤ placeAt (s .requests) i .request .length)) ⊎ Unsolicited (s .requests) p)
+    unfolding numberOf
+    reply-passes u h = (λ z. allowed-exactly u .0 z .reply r, zero-number)
+      where
+        zero-number : ((i : ℕ) × Answers (s .requests) p i × (countOf p ≤ placeAt (s .requests) i .request .length)) ⊎ Unsolicited (s .requests) p → judged s e .number ≡ 0
+        zero-number x =
+            let f = reply-from s from p agreed u (λ k. x) in
+            let c = reply-does (e .class) replying in
+            let d = c .2 (s .device) in
+            number-is s e
+            ∙ silent (s .device) (s .requests) e (matchOf (s .requests) e)
+            (record {
+              device = failing (traitsOf (e .class) .device) (not (s .device .present)) (λ k. false-not (s .device .present) h);
+              ack = ap (λ (b : Bool). b && s .device .owed) (d .1);
+              order = d .2;
+              type = ap (λ (b : Bool). b && mistypedBy (s .device .rows) (e .typed)) (d .3);
+              settled = ap (λ (b : Bool). b && leb 100 (e .request .kind) && leb (e .request .kind) 103 && isSome (lowest (s .requests) Settling)) from-a-host;
+              stream = ap (λ (b : Bool). b && not (isOpen (s .device .rows) (e .typed))) (d .4);
+              unused = ap (λ (b : Bool). b && isSome (lowest (s .requests) (Id (e .request .id)))) (c .0);
+              room = ap (λ (b : Bool). b && not (isSome (lowest (s .requests) Free))) (c .0);
+              matched = f .0;
+              short = f .1;
+            })
+
+    -- the data requests that end with it are those that document 01 names
+    ends-too : (i : ℕ) (q : Request) → placeAt (s .requests) i .request ≡ q → Answers (s .requests) p i → (j : ℕ) → ends (s .device .rows) (scopeOf e (Matched i q)) (placeAt (s .requests) j) ≡ true → EndsToo s p i j
+    unfolding touched eventOf
+    ends-too i q k a j h =
+        let x = and-parts _ (touched (s .device .rows) (scopeOf e (Matched i q)) target) h in
+        let y = and-parts (placeAt (s .requests) j .live) _ (x .0) in
+        cases (eqb (e .status) 0)
+        (λ z. record { live = y .0; kind = y .1; status = eqb-true (e .status) 0 z; scope = by-kind z (x .1) })
+        (λ z. absurd (false≢true (rw z at (x .1))))
+      where
+        target : Endpoint
+        target = record { 0 = placeAt (s .requests) j .request .target }
+
+        by-kind : eqb (e .status) 0 ≡ true → touched (s .device .rows) (scopeOf e (Matched i q)) target ≡ true
+            → (placeAt (s .requests) i .request .kind ≡ 6) ⊎ ((placeAt (s .requests) i .request .kind ≡ 9) × (touched (s .device .rows) (OfInterface (placeAt (s .requests) i .request .target)) target ≡ true))
+        by-kind z t =
+            cases (eqb (q .kind) 6)
+            (λ x. inl (ap (λ (y : Request). y .kind) k ∙ eqb-true (q .kind) 6 x))
+            (λ x. cases (eqb (q .kind) 9) (λ y. inr (alt x y)) (λ y. absurd (false≢true (rw (z, x, y) at t))))
+          where
+            alt : eqb (q .kind) 6 ≡ false → eqb (q .kind) 9 ≡ true → (placeAt (s .requests) i .request .kind ≡ 9) × (touched (s .device .rows) (OfInterface (placeAt (s .requests) i .request .target)) target ≡ true)
+            alt x y =
+                let nine : placeAt (s .requests) i .request .kind ≡ 9 = ap (λ (y : Request). y .kind) k ∙ eqb-true (q .kind) 9 y in
+                let eleven : p .kind ≡ 11 = alt-reply from (p .kind) (inwardOf p) r (sym (ap (answersKind (p .kind)) nine) ∙ a .kind) in
+                let carried : carriesTarget (p .kind) ≡ true = ap carriesTarget eleven in
+                let named : placeAt (s .requests) i .request .target ≡ e .request .target = a .target carried ∙ ap (λ (n : ℕ). cond (eqb n 11) (field "interface" p) (field "endpoint" p)) eleven ∙ sym (alt-target from p eleven) in
+                (nine, ap (λ (n : ℕ). touched (s .device .rows) (OfInterface n) target) named ∙ (rw (z, x, y) at t))
+
+    abbrev query : Query
+    query = Answered (e .request) (e .answers)
+
+    match-at : (o : Option ℕ) → lowest (s .requests) query ≡ o → matchOf (s .requests) e ≡ matchIn (s .requests) o
+    match-at o x = match-is s from p agreed r ∙ ap (matchIn (s .requests)) x
+
+    -- a reply that passes is handed to the one request that it answers, or it is unsolicited and handed to none
+    pub reply-handed : idsDiffer (s .requests .places) ≡ true → judged s e .number ≡ 0
+        → ((i : ℕ) × HandedTo s p (judged s e .session) i) ⊎ (Unsolicited (s .requests) p × (judged s e .session .requests ≡ s .requests))
+    unfolding eventOf
+    reply-handed u z = go (lowest (s .requests) query) refl
+      where
+        handed : (i : ℕ) → Freed s e i (placeAt (s .requests) i .request) → HandedTo s p (judged s e .session) i
+        handed i f =
+            let a = answers-to s from p agreed r i (f .within) (and-whole (placeAt (s .requests) i .live) _ (f .live) (f .answered)) in
+            record {
+              answers = a;
+              short = f .short;
+              only = λ j l v n. differ-when (s .requests .places) u j i l (f .within) v (f .live) (n ∙ sym (a .id));
+              freed = f .freed;
+              others = λ j n.
+                  cases (ends (s .device .rows) (scopeOf e (Matched i (placeAt (s .requests) i .request))) (placeAt (s .requests) j))
+                  (λ x. inr (ends-too i (placeAt (s .requests) i .request) refl a j x, f .others j n ∙ rw x))
+                  (λ x. inl (f .others j n ∙ rw x));
+            }
+
+        go : (o : Option ℕ) → lowest (s .requests) query ≡ o → ((i : ℕ) × HandedTo s p (judged s e .session) i) ⊎ (Unsolicited (s .requests) p × (judged s e .session .requests ≡ s .requests))
+        go none x =
+            inr (alone-to s from p agreed r x (sym (ap (noSuchRequest e) (match-at none x)) ∙ calm s e z .matched), unmatched-keeps s e replying (match-at none x))
+        go (some i) x = inl (i, handed i (reply-frees s e i (placeAt (s .requests) i .request) z (match-at (some i) x)))
+
+    -- once it has been handed to a request, no request with its id waits
+    pub answered-for-good : idsDiffer (s .requests .places) ≡ true → judged s e .number ≡ 0 → (Unsolicited (s .requests) p → ⊥) → NoLive (judged s e .session .requests) (p .id)
+    unfolding eventOf
+    answered-for-good u z n = go (lowest (s .requests) query) refl
+      where
+        go : (o : Option ℕ) → lowest (s .requests) query ≡ o → NoLive (judged s e .session .requests) (p .id)
+        go none x = absurd (n (alone-to s from p agreed r x (sym (ap (noSuchRequest e) (match-at none x)) ∙ calm s e z .matched)))
+        go (some i) x = answered-once s e i (placeAt (s .requests) i .request) z (match-at (some i) x) u
+
+    -- where no request with its id waits, it is refused, but for an unsolicited status, and it frees nothing
+    pub late : NoLive (s .requests) (p .id) → LateReply s from p
+    unfolding eventOf
+    late n =
+        let l = late-reply s e replying from-a-host n in
+        record {
+          without-device = l .absent;
+          refused = λ h x. l .unanswered h (cases (isUnsolicited e) (λ y. absurd (x (alone y))) (λ y. y));
+          kept = l .kept;
+        }
+      where
+        alone : isUnsolicited e ≡ true → Unsolicited (s .requests) p
+        alone y =
+            let v = and-parts (among (14 ∷ 17 ∷ 27 ∷ []) (p .kind) && eqb (p .id) 0) (eqb (field "status" p) 4) (sym (unsolicited-is s from p agreed r) ∙ y) in
+            let x = and-parts (among (14 ∷ 17 ∷ 27 ∷ []) (p .kind)) (eqb (p .id) 0) (v .0) in
+            record {
+              kind = x .0;
+              id = eqb-true (p .id) 0 (x .1);
+              status = eqb-true (field "status" p) 4 (v .1);
+              unmatched = λ i a. n i (a .place) (a .live) (a .id);
+            }
