@@ -64,6 +64,8 @@ pub record HandedTo (s : Session) (p : Content) (next : Session) (i : ℕ) : Typ
   -- its place is free, as at the start; every other place stays as it was, but for the data requests that end with a setting
   pub freed : placeAt (next .requests) i ≡ freePlace
   pub others : (j : ℕ) → (j ≡ i → ⊥) → (placeAt (next .requests) j ≡ placeAt (s .requests) j) ⊎ (EndsToo s p i j × (placeAt (next .requests) j ≡ freePlace))
+  -- and those are freed
+  pub ended : (j : ℕ) → (j ≡ i → ⊥) → EndsToo s p i j → placeAt (next .requests) j ≡ freePlace
 
 -- a reply to a session in which no request with its id waits
 pub record LateReply (s : Session) (from : Side) (p : Content) : Type 0 where
@@ -149,33 +151,55 @@ module _ (s : Session) (from : Side) (p : Content) (w : wireNumber (linkOf from 
               short = f .1;
             })
 
-    -- the data requests that end with it are those that document 01 names
-    ends-too : (i : ℕ) (q : Request) → placeAt (s .requests) i .request ≡ q → Answers (s .requests) p i → (j : ℕ) → ends (s .device .rows) (scopeOf e (Matched i q)) (placeAt (s .requests) j) ≡ true → EndsToo s p i j
-    unfolding touched eventOf
-    ends-too i q k a j h =
-        let x = and-parts _ (touched (s .device .rows) (scopeOf e (Matched i q)) target) h in
-        let y = and-parts (placeAt (s .requests) j .live) _ (x .0) in
-        cases (eqb (e .status) 0)
-        (λ z. record { live = y .0; kind = y .1; status = eqb-true (e .status) 0 z; scope = by-kind z (x .1) })
-        (λ z. absurd (false≢true (rw z at (x .1))))
-      where
-        target : Endpoint
-        target = record { 0 = placeAt (s .requests) j .request .target }
+    -- a reply to a set alt names the interface of its request
+    same-interface : (i : ℕ) → Answers (s .requests) p i → placeAt (s .requests) i .request .kind ≡ 9 → placeAt (s .requests) i .request .target ≡ e .request .target
+    same-interface i a nine =
+        let eleven : p .kind ≡ 11 = alt-reply from (p .kind) (inwardOf p) r (sym (ap (answersKind (p .kind)) nine) ∙ a .kind) in
+        a .target (ap carriesTarget eleven) ∙ ap (λ (n : ℕ). cond (eqb n 11) (field "interface" p) (field "endpoint" p)) eleven ∙ sym (alt-target from p eleven)
 
-        by-kind : eqb (e .status) 0 ≡ true → touched (s .device .rows) (scopeOf e (Matched i q)) target ≡ true
-            → (placeAt (s .requests) i .request .kind ≡ 6) ⊎ ((placeAt (s .requests) i .request .kind ≡ 9) × (touched (s .device .rows) (OfInterface (placeAt (s .requests) i .request .target)) target ≡ true))
-        by-kind z t =
-            cases (eqb (q .kind) 6)
-            (λ x. inl (ap (λ (y : Request). y .kind) k ∙ eqb-true (q .kind) 6 x))
-            (λ x. cases (eqb (q .kind) 9) (λ y. inr (alt x y)) (λ y. absurd (false≢true (rw (z, x, y) at t))))
-          where
-            alt : eqb (q .kind) 6 ≡ false → eqb (q .kind) 9 ≡ true → (placeAt (s .requests) i .request .kind ≡ 9) × (touched (s .device .rows) (OfInterface (placeAt (s .requests) i .request .target)) target ≡ true)
-            alt x y =
-                let nine : placeAt (s .requests) i .request .kind ≡ 9 = ap (λ (y : Request). y .kind) k ∙ eqb-true (q .kind) 9 y in
-                let eleven : p .kind ≡ 11 = alt-reply from (p .kind) (inwardOf p) r (sym (ap (answersKind (p .kind)) nine) ∙ a .kind) in
-                let carried : carriesTarget (p .kind) ≡ true = ap carriesTarget eleven in
-                let named : placeAt (s .requests) i .request .target ≡ e .request .target = a .target carried ∙ ap (λ (n : ℕ). cond (eqb n 11) (field "interface" p) (field "endpoint" p)) eleven ∙ sym (alt-target from p eleven) in
-                (nine, ap (λ (n : ℕ). touched (s .device .rows) (OfInterface n) target) named ∙ (rw (z, x, y) at t))
+    module _ (i : ℕ) (a : Answers (s .requests) p i) (j : ℕ) where
+      abbrev q : Request
+      q = placeAt (s .requests) i .request
+
+      abbrev target : Endpoint
+      target = record { 0 = placeAt (s .requests) j .request .target }
+
+      abbrev scope : Scope
+      scope = scopeOf e (Matched i q)
+
+      -- the data requests that end with it are those that document 01 names
+      ends-too : ends (s .device .rows) scope (placeAt (s .requests) j) ≡ true → EndsToo s p i j
+      unfolding touched eventOf
+      ends-too h =
+          let x = and-parts _ (touched (s .device .rows) scope target) h in
+          let y = and-parts (placeAt (s .requests) j .live) _ (x .0) in
+          cases (eqb (e .status) 0)
+          (λ z. record { live = y .0; kind = y .1; status = eqb-true (e .status) 0 z; scope = by-kind z (x .1) })
+          (λ z. absurd (false≢true (rw z at (x .1))))
+        where
+          by-kind : eqb (e .status) 0 ≡ true → touched (s .device .rows) scope target ≡ true → (q .kind ≡ 6) ⊎ ((q .kind ≡ 9) × (touched (s .device .rows) (OfInterface (q .target)) target ≡ true))
+          by-kind z t =
+              cases (eqb (q .kind) 6)
+              (λ x. inl (eqb-true (q .kind) 6 x))
+              (λ x.
+              cases (eqb (q .kind) 9)
+              (λ y.
+              let nine = eqb-true (q .kind) 9 y in
+              inr (nine, ap (λ (n : ℕ). touched (s .device .rows) (OfInterface n) target) (same-interface i a nine) ∙ (rw (z, x, y) at t)))
+              (λ y. absurd (false≢true (rw (z, x, y) at t))))
+
+      too-ends : EndsToo s p i j → ends (s .device .rows) scope (placeAt (s .requests) j) ≡ true
+      unfolding touched eventOf
+      too-ends x = and-whole _ (touched (s .device .rows) scope target) (and-whole (placeAt (s .requests) j .live) _ (x .live) (x .kind)) (by-kind (x .scope))
+        where
+          zero-status : eqb (e .status) 0 ≡ true
+          zero-status = eq-eqb (e .status) 0 (x .status)
+
+          by-kind : (q .kind ≡ 6) ⊎ ((q .kind ≡ 9) × (touched (s .device .rows) (OfInterface (q .target)) target ≡ true)) → touched (s .device .rows) scope target ≡ true
+          by-kind (inl six) = rw (zero-status, eq-eqb (q .kind) 6 six)
+          by-kind (inr (nine, t)) =
+              rw (zero-status, ap (λ (n : ℕ). eqb n 6) nine, eq-eqb (q .kind) 9 nine)
+              (sym (ap (λ (n : ℕ). touched (s .device .rows) (OfInterface n) target) (same-interface i a nine)) ∙ t)
 
     abbrev query : Query
     query = Answered (e .request) (e .answers)
@@ -199,8 +223,9 @@ module _ (s : Session) (from : Side) (p : Content) (w : wireNumber (linkOf from 
               freed = f .freed;
               others = λ j n.
                   cases (ends (s .device .rows) (scopeOf e (Matched i (placeAt (s .requests) i .request))) (placeAt (s .requests) j))
-                  (λ x. inr (ends-too i (placeAt (s .requests) i .request) refl a j x, f .others j n ∙ rw x))
+                  (λ x. inr (ends-too i a j x, f .others j n ∙ rw x))
                   (λ x. inl (f .others j n ∙ rw x));
+              ended = λ j n x. f .others j n ∙ rw (too-ends i a j x);
             }
 
         go : (o : Option ℕ) → lowest (s .requests) query ≡ o → ((i : ℕ) × HandedTo s p (judged s e .session) i) ⊎ (Unsolicited (s .requests) p × (judged s e .session .requests ≡ s .requests))
