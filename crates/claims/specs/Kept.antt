@@ -46,7 +46,7 @@ use Rattle.checks.specs.Checks.{traitsOf, isSome, matchOf}
 use Rattle.session.specs.declared.Session.{Session}
 use Rattle.session.specs.Session.{freshSession, linkOf, unfit}
 use Rattle.session.specs.Step.{greeted, isHello, streamBy, opens, scopeOf, replyRows, deviceAfter, takenAt, answered, nextFor, judged}
-use Rattle.claims.specs.Logic.{and-whole, fails}
+use Rattle.scan.specs.Logic.{and-whole, fails}
 use Rattle.claims.specs.Steps.{after, step, calm, Role, leaving, asking, answering, ending, roleOf, requestsBy, Does, does, next-requests, Clean, clean}
 
 -- ---- the requests

@@ -1,4 +1,3 @@
-pub mod Logic
 pub mod Allowed
 pub mod Agree
 pub mod Passes

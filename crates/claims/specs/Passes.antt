@@ -43,7 +43,7 @@ use Rattle.checks.specs.declared.Match.{Match}
 use Rattle.checks.specs.declared.Match.the-variants.{Unmatched, Matched}
 use Rattle.checks.specs.Checks.{traitsOf, isSome, noDevice, ackOwed, isBegun, isDone, outOfOrder, mistypedBy, wrongType, isTransfer, settling, isOpen, streamClosed, idInUse, isFull, matchIn, matchOf, isUnmatched, isUnsolicited, noSuchRequest, tooLong, numberFor, numberOf}
 use Rattle.session.specs.declared.Session.{Session}
-use Rattle.claims.specs.Logic.{and-parts, and-whole, fails, failing, implied, implying, or-parts, or-none, false-not, true-not}
+use Rattle.scan.specs.Logic.{and-parts, and-whole, fails, failing, implied, implying, or-parts, or-none, false-not, true-not}
 use Rattle.claims.specs.Allowed.{among, oneOf, isRequest, isReply, answersKind, carriesTarget, wants, onStream, endpointOf, inwardOf, replyTarget, countOf, Answers, Unsolicited, Allowed}
 use Rattle.claims.specs.Agree.{Facts, factsOf, factsBy, disordered, rowBy, typedBy, answersBy, agrees}
 

@@ -36,7 +36,7 @@ use Rattle.checks.specs.declared.Match.{Match}
 use Rattle.session.specs.declared.Session.{Session}
 use Rattle.session.specs.Session.{linkOf}
 use Rattle.session.specs.Step.{scopeOf, judged}
-use Rattle.claims.specs.Logic.{and-parts, and-whole, failing, or-none, false-not}
+use Rattle.scan.specs.Logic.{and-parts, and-whole, failing, or-none, false-not}
 use Rattle.claims.specs.Allowed.{among, oneOf, isReply, answersKind, carriesTarget, inwardOf, replyTarget, countOf, Answers, Unsolicited, Allowed}
 use Rattle.claims.specs.Agree.{Facts, factsOf, factsBy, agrees}
 use Rattle.claims.specs.Passes.{Quiet, silent, passes, answers-to, match-is, alone-to, reply-from, unsolicited-is}

@@ -41,7 +41,7 @@ use Rattle.checks.specs.declared.Match.the-variants.{Unmatched, Matched}
 use Rattle.checks.specs.Checks.{traitsOf, isSome, outOfOrder, matchIn, matchOf, isUnmatched, isUnsolicited, tooLong, numberFor, numberOf}
 use Rattle.session.specs.declared.Session.{Session}
 use Rattle.session.specs.Step.{scopeOf, asked, takenAt, answered, requestsAfter, nextFor, judged}
-use Rattle.claims.specs.Logic.{and-parts, fails}
+use Rattle.scan.specs.Logic.{and-parts, fails}
 use Rattle.claims.specs.Allowed.{among, isReply, inwardOf}
 use Rattle.claims.specs.Agree.{Facts, agrees}
 use Rattle.claims.specs.Passes.{Quiet, quiet}

@@ -16,6 +16,7 @@ use Rattle.device.specs.declared.Scope.{Scope}
 use Rattle.device.specs.declared.Scope.the-variants.{Nowhere}
 use Rattle.device.specs.Device.{touched}
 use Rattle.scan.specs.Scan.{exists, eachAt}
+use Rattle.scan.specs.Logic.{and-parts}
 use Rattle.scan.specs.Laws.{first-found, first-lowest, first-absent, first-none, exists-at, exists-not, getD-set, each-at, each-length, each-same, each-anywhere}
 use Rattle.requests.specs.declared.Request.{Request}
 use Rattle.requests.specs.declared.Place.{Place}
@@ -55,17 +56,13 @@ Apart n at = (i j : ℕ) → i < n → j < n → at i .live ≡ true → at j .l
 abbrev pub Differ : List Place → Type 0
 Differ l = Apart (length l) (λ (i : ℕ). getD l i freePlace)
 
-both : (a b : Bool) → (a && b) ≡ true → (a ≡ true) × (b ≡ true)
-both true b e = (refl, e)
-both false b e = absurd (false≢true e)
-
 module _ (n : ℕ) (p : Place) where
   -- a live request with this id
   has-id : p .live ≡ true → p .request .id ≡ n → hasId n p ≡ true
   has-id e q = rw (e, eq-eqb (p .request .id) n q)
 
   id-had : hasId n p ≡ true → (p .live ≡ true) × (p .request .id ≡ n)
-  id-had e = let r = both (p .live) (eqb (p .request .id) n) e in (r .0, eqb-true (p .request .id) n (r .1))
+  id-had e = let r = and-parts (p .live) (eqb (p .request .id) n) e in (r .0, eqb-true (p .request .id) n (r .1))
 
 module _ (p : Place) (ps : List Place) where
   -- where the first place does not clash, no later one has its id
@@ -96,7 +93,7 @@ module _ (p : Place) (ps : List Place) where
 
   split : idsDiffer (p ∷ ps) ≡ true → (clashes (p ∷ ps) ≡ false) × (idsDiffer ps ≡ true)
   unfolding idsDiffer
-  split d = let r = both (not (clashes (p ∷ ps))) (idsDiffer ps) d in (not-true (clashes (p ∷ ps)) (r .0), r .1)
+  split d = let r = and-parts (not (clashes (p ∷ ps))) (idsDiffer ps) d in (not-true (clashes (p ∷ ps)) (r .0), r .1)
 
 pub differ-when : (l : List Place) → idsDiffer l ≡ true → Differ l
 differ-when [] d i j h k e f q = absurd (omega arith)

@@ -2,7 +2,7 @@
 -- Assumes nothing.
 use Prim.Native.Nat.{ℕ, zero, suc, _+_, _<_}
 use mathlib.Core.Path.{_≡_, refl, sym, ap, _∙_}
-use mathlib.Core.Bool.{Bool, true, false, cond, _||_, true≢false, or-true}
+use mathlib.Core.Bool.{Bool, true, false, cond, true≢false, or-true}
 use mathlib.Core.List.{List, [], _∷_}
 use mathlib.Core.Option.{Option, none, some, Option·some-injective, Option·none-ne-some, Option·some-ne-none}
 use native.Mathlib.Nat.{add-zero, zero-add, add-suc, suc-add}
@@ -13,11 +13,8 @@ use lib.Dec.{eqb}
 use borrow.Author.Tests.{eqb-true, eqb-false}
 use borrow.Table.Steps.{cases}
 use Rattle.scan.specs.Scan.{firstAt, exists, anyAt, eachAt}
+use Rattle.scan.specs.Logic.{or-parts}
 use Rattle.scan.specs.Loop.{upTo, upto-at, upto-more}
-
-or-parts : (a b : Bool) → (a || b) ≡ false → (a ≡ false) × (b ≡ false)
-or-parts true b e = absurd (true≢false e)
-or-parts false b e = (refl, e)
 
 -- ---- the first that passes
 

@@ -1,3 +1,4 @@
 pub mod Scan
+pub mod Logic
 pub mod Loop
 pub mod Laws
