@@ -1,0 +1,58 @@
+//! Tests of the session library: scenarios, captures of real peers, generated sessions.
+//!
+//! `session [DIRECTORY]`: with a directory, the captures in it are compared with the oracle as well.
+//! The environment variable SEED repeats a run of the generated sessions.
+
+mod captures;
+mod differential;
+mod generate;
+mod hex;
+mod library;
+mod oracle;
+mod packets;
+mod random;
+mod report;
+mod scenarios;
+mod script;
+
+use std::env;
+use std::path::Path;
+use std::process::ExitCode;
+use std::time::{SystemTime, UNIX_EPOCH};
+
+use report::Report;
+
+fn main() -> ExitCode {
+    let seed = seed();
+    println!("seed {seed}");
+    let mut report = Report::default();
+    report.open("scenarios");
+    scenarios::run(&mut report);
+    report.close();
+    report.open("captures");
+    captures::run(&mut report);
+    report.close();
+    report.open("differential");
+    differential::run(seed, &mut report);
+    report.close();
+    if let Some(directory) = env::args_os().nth(1) {
+        report.open("captures of the directory");
+        captures::run_directory(Path::new(&directory), &mut report);
+        report.close();
+    }
+    if report.finish() {
+        ExitCode::SUCCESS
+    } else {
+        ExitCode::FAILURE
+    }
+}
+
+fn seed() -> u64 {
+    match env::var("SEED") {
+        Ok(text) => text.parse().expect("SEED is a number"),
+        Err(_) => match SystemTime::now().duration_since(UNIX_EPOCH) {
+            Ok(time) => time.as_nanos() as u64,
+            Err(_) => 1,
+        },
+    }
+}
