@@ -18,7 +18,7 @@ use Rattle.requests.specs.Requests.{lowest, placeAt}
 use Rattle.events.specs.declared.Class.{Class}
 use Rattle.events.specs.declared.Class.the-variants.{Hello, Connect, Interfaces, Endpoints, Disconnect, Reset, Ack, Cancel, Filter, StartRequest, PlainRequest, StreamStatus, PlainReply, StreamData}
 use Rattle.events.specs.declared.Typed.{Typed}
-use Rattle.events.specs.declared.Typed.the-variants.{Untyped, Row, Mask}
+use Rattle.events.specs.declared.Typed.the-variants.{Untyped, OfEndpoint, OfMask}
 use Rattle.events.specs.declared.Event.{Event}
 use Rattle.checks.specs.declared.Traits.{Traits}
 use Rattle.checks.specs.declared.Match.{Match}
@@ -110,8 +110,8 @@ outOfOrder d StreamData = false
 
 abbrev pub mistypedBy : Rows → Typed → Bool
 mistypedBy rows Untyped = false
-mistypedBy rows (Row e k) = not (eqb (stateAt rows e .kind) k)
-mistypedBy rows (Mask m k) = maskMistyped rows m k
+mistypedBy rows (OfEndpoint e k) = not (eqb (stateAt rows e .kind) k)
+mistypedBy rows (OfMask m k) = maskMistyped rows m k
 
 abbrev pub wrongType : Rows → Event → Bool
 wrongType rows e = traitsOf (e .class) .typed && mistypedBy rows (e .typed)
@@ -128,8 +128,8 @@ settling t e = isTransfer e && isSome (lowest t Settling)
 
 abbrev pub isOpen : Rows → Typed → Bool
 isOpen rows Untyped = false
-isOpen rows (Row e k) = stateAt rows e .streaming
-isOpen rows (Mask m k) = false
+isOpen rows (OfEndpoint e k) = stateAt rows e .streaming
+isOpen rows (OfMask m k) = false
 
 abbrev pub streamClosed : Rows → Event → Bool
 streamClosed rows e = traitsOf (e .class) .streamed && not (isOpen rows (e .typed))

@@ -151,11 +151,11 @@ fn mistyped_by(rows: Rows, typed: Typed) -> bool
 {
     match typed {
         Typed::Untyped => false,
-        Typed::Row(endpoint, kind) => {
+        Typed::OfEndpoint(endpoint, kind) => {
             let r = state_at(rows, endpoint);
             r.kind != kind
         }
-        Typed::Mask(mask, kind) => mask_mistyped(rows, mask, kind),
+        Typed::OfMask(mask, kind) => mask_mistyped(rows, mask, kind),
     }
 }
 
@@ -202,11 +202,11 @@ fn is_open(rows: Rows, typed: Typed) -> bool
 {
     match typed {
         Typed::Untyped => false,
-        Typed::Row(endpoint, _) => {
+        Typed::OfEndpoint(endpoint, _) => {
             let r = state_at(rows, endpoint);
             r.streaming
         }
-        Typed::Mask(_, _) => false,
+        Typed::OfMask(_, _) => false,
     }
 }
 

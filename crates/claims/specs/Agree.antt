@@ -20,7 +20,7 @@ use Rattle.device.specs.Device.{bulk}
 use Rattle.requests.specs.declared.Request.{Request}
 use Rattle.requests.specs.Requests.{answers}
 use Rattle.events.specs.declared.Typed.{Typed}
-use Rattle.events.specs.declared.Typed.the-variants.{Untyped, Row, Mask}
+use Rattle.events.specs.declared.Typed.the-variants.{Untyped, OfEndpoint, OfMask}
 use Rattle.events.specs.declared.Event.{Event}
 use Rattle.events.specs.Meaning.{meanings}
 use Rattle.events.specs.Event.{field, meaningOf, eventOf}
@@ -64,10 +64,10 @@ disordered kind d =
 
 abbrev pub rowBy : Option ℕ → Content → Typed
 rowBy none p = Untyped
-rowBy (some k) p = Row (endpointOf p) k
+rowBy (some k) p = OfEndpoint (endpointOf p) k
 
 abbrev pub typedBy : Side → Content → Typed
-typedBy from p = cond (among (18 ∷ 19 ∷ []) (p .kind)) (Mask (field "mask" p) bulk) (rowBy (wants from (p .kind) (inwardOf p)) p)
+typedBy from p = cond (among (18 ∷ 19 ∷ []) (p .kind)) (OfMask (field "mask" p) bulk) (rowBy (wants from (p .kind) (inwardOf p)) p)
 
 abbrev pub answersBy : Content → Request → Bool
 answersBy p q = eqb (q .id) (p .id) && answersKind (p .kind) (q .kind) && (not (carriesTarget (p .kind)) || eqb (q .target) (replyTarget p))

@@ -37,7 +37,7 @@ use Rattle.requests.specs.Laws.{with-place-length, released-length, fresh-lengt
 use Rattle.events.specs.declared.Class.{Class}
 use Rattle.events.specs.declared.Class.the-variants.{Hello as HelloClass, Connect, Interfaces, Endpoints, Disconnect, Reset, Ack, Cancel, Filter, StartRequest, PlainRequest, StreamStatus, PlainReply, StreamData}
 use Rattle.events.specs.declared.Typed.{Typed}
-use Rattle.events.specs.declared.Typed.the-variants.{Untyped, Row, Mask}
+use Rattle.events.specs.declared.Typed.the-variants.{Untyped, OfEndpoint, OfMask}
 use Rattle.events.specs.declared.Event.{Event}
 use Rattle.events.specs.Event.{announcedIn, eventOf}
 use Rattle.checks.specs.declared.Match.{Match}
@@ -45,9 +45,9 @@ use Rattle.checks.specs.declared.Match.the-variants.{Unmatched, Matched}
 use Rattle.checks.specs.Checks.{traitsOf, isSome, matchOf}
 use Rattle.session.specs.declared.Session.{Session}
 use Rattle.session.specs.Session.{freshSession, linkOf, unfit}
-use Rattle.session.specs.Step.{greeted, isHello, streamBy, opens, scopeOf, replyRows, deviceAfter, takenAt, answered, nextFor, judged}
+use Rattle.session.specs.Step.{keptHello, isHello, streamBy, opens, scopeOf, replyRows, deviceAfter, takenAt, answered, nextFor, judged}
 use Rattle.scan.specs.Logic.{and-whole, fails}
-use Rattle.claims.specs.Steps.{after, step, calm, Role, leaving, asking, answering, ending, roleOf, requestsBy, Does, does, next-requests, Clean, clean}
+use Rattle.claims.specs.Steps.{after, step, none-held, Role, leaving, asking, answering, ending, roleOf, requestsBy, Does, does, next-requests, Clean, clean}
 
 -- ---- the requests
 
@@ -80,7 +80,7 @@ unused (some i) h = absurd (true≢false h)
 pub kept-ids : (s : Session) (e : Event) → idsDiffer (s .requests .places) ≡ true → idsDiffer (after s e .requests .places) ≡ true
 kept-ids s e d =
     requests-hold (λ (t : Requests). idsDiffer (t .places) ≡ true) fresh-differ (λ t rows c h. released-differ t h rows c) s e d (free-differ (s .requests) d)
-    (λ h z i. taken-differ (s .requests) d i (e .request) (unused (lowest (s .requests) (Id (e .request .id))) (fails (traitsOf (e .class) .request) _ (calm s e z .unused) h)))
+    (λ h z i. taken-differ (s .requests) d i (e .request) (unused (lowest (s .requests) (Id (e .request .id))) (fails (traitsOf (e .class) .request) _ (none-held s e z .unused) h)))
 
 -- ---- the rows
 
@@ -88,8 +88,8 @@ kept-ids s e d =
 module _ (P : Rows → Type 0) (start : P startRows) (close : (d : Rows) (c : Scope) → P d → P (closed d c)) (stream : (d : Rows) (x : Endpoint) (k : ℕ) (b : Bool) → P d → P (streamTo d x k b)) where
   streams : (d : Rows) (t : Typed) (b : Bool) → P d → P (streamBy d t b)
   streams d Untyped b h = h
-  streams d (Row x k) b h = stream d x k b h
-  streams d (Mask m k) b h = h
+  streams d (OfEndpoint x k) b h = stream d x k b h
+  streams d (OfMask m k) b h = h
 
   replies : (d : Rows) (e : Event) (m : Match) → P d → P (replyRows d e m)
   replies d e m h = close (streamBy d (e .typed) (opens e m)) (scopeOf e m) (streams d (e .typed) (opens e m) h)
@@ -177,10 +177,10 @@ kept-lengths s e z =
 -- ---- the hellos
 
 -- a hello that has passed is not replaced
-greeted-once : (b : Bool) (h : Hello) (word : ℕ) → passed h ≡ true → cond b (greeted h word) h ≡ h
-greeted-once true Awaited word p = absurd (false≢true p)
-greeted-once true (Passed w) word p = refl
-greeted-once false h word p = refl
+keptHello-once : (b : Bool) (h : Hello) (word : ℕ) → passed h ≡ true → cond b (keptHello h word) h ≡ h
+keptHello-once true Awaited word p = absurd (false≢true p)
+keptHello-once true (Passed w) word p = refl
+keptHello-once false h word p = refl
 
 pub record HellosKept (s : Session) (e : Event) : Type 0 where
   -- a hello that has passed stays as it is
@@ -191,8 +191,8 @@ pub kept-hellos : (s : Session) (e : Event) → HellosKept s e
 unfolding nextFor
 kept-hellos s e =
     record {
-      guest = λ p. step s e (λ (x : Session). x .guest ≡ s .guest) refl (λ z. greeted-once (isHello (e .class) && isGuest (e .sender)) (s .guest) (e .word) p);
-      host = λ p. step s e (λ (x : Session). x .host ≡ s .host) refl (λ z. greeted-once (isHello (e .class) && not (isGuest (e .sender))) (s .host) (e .word) p);
+      guest = λ p. step s e (λ (x : Session). x .guest ≡ s .guest) refl (λ z. keptHello-once (isHello (e .class) && isGuest (e .sender)) (s .guest) (e .word) p);
+      host = λ p. step s e (λ (x : Session). x .host ≡ s .host) refl (λ z. keptHello-once (isHello (e .class) && not (isGuest (e .sender))) (s .host) (e .word) p);
     }
 
 -- once both have passed, the shared set stays as it is

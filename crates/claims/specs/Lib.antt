@@ -4,4 +4,5 @@ pub mod Passes
 pub mod Steps
 pub mod Replies
 pub mod Kept
+pub mod Moves
 pub mod Examples

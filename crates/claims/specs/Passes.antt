@@ -36,7 +36,7 @@ use Rattle.requests.specs.declared.Query.the-variants.{Free, Id, Settling, Answ
 use Rattle.requests.specs.Requests.{freePlace, meets, answers, isSetting, lowest, placeAt, idsDiffer}
 use Rattle.requests.specs.Laws.{differ-when}
 use Rattle.events.specs.declared.Typed.{Typed}
-use Rattle.events.specs.declared.Typed.the-variants.{Untyped, Row, Mask}
+use Rattle.events.specs.declared.Typed.the-variants.{Untyped, OfEndpoint, OfMask}
 use Rattle.events.specs.declared.Event.{Event}
 use Rattle.events.specs.Event.{field, eventOf}
 use Rattle.checks.specs.declared.Match.{Match}
@@ -49,7 +49,7 @@ use Rattle.claims.specs.Agree.{Facts, factsOf, factsBy, disordered, rowB
 
 -- ---- the number is 0 exactly where no check holds
 
-pub record Quiet (d : Device) (t : Requests) (e : Event) (m : Match) : Type 0 where
+pub record NoneHolds (d : Device) (t : Requests) (e : Event) (m : Match) : Type 0 where
   pub device : noDevice d e ≡ false
   pub ack : ackOwed d e ≡ false
   pub order : outOfOrder d (e .class) ≡ false
@@ -70,9 +70,9 @@ skip : (n : ℕ) (b : Bool) (rest : ℕ) → b ≡ false → rest ≡ 0 → cond
 skip n true rest e f = absurd (true≢false e)
 skip n false rest e f = f
 
-pub quiet : (d : Device) (t : Requests) (e : Event) (m : Match) → numberFor d t e m ≡ 0 → Quiet d t e m
+pub none-holds : (d : Device) (t : Requests) (e : Event) (m : Match) → numberFor d t e m ≡ 0 → NoneHolds d t e m
 unfolding numberFor
-quiet d t e m z =
+none-holds d t e m z =
     let a = next 25 _ _ refl z in
     let b = next 27 _ _ refl (a .1) in
     let c = next 26 _ _ refl (b .1) in
@@ -85,9 +85,9 @@ quiet d t e m z =
     let o = next 34 _ _ refl (l .1) in
     record { device = a .0; ack = b .0; order = c .0; type = f .0; settled = g .0; stream = i .0; unused = j .0; room = k .0; matched = l .0; short = o .0 }
 
-pub silent : (d : Device) (t : Requests) (e : Event) (m : Match) → Quiet d t e m → numberFor d t e m ≡ 0
+pub holds-none : (d : Device) (t : Requests) (e : Event) (m : Match) → NoneHolds d t e m → numberFor d t e m ≡ 0
 unfolding numberFor
-silent d t e m q =
+holds-none d t e m q =
     skip 25 _ _ (q .device)
     (skip 27 _ _ (q .ack)
     (skip 26 _ _ (q .order)
@@ -464,7 +464,7 @@ passes s from p k f h u = (allowed, zero-number)
 
     allowed : numberFor (s .device) (s .requests) (eventOf from p) (matchOf (s .requests) (eventOf from p)) ≡ 0 → Allowed s from p
     allowed z =
-        let q = quiet (s .device) (s .requests) (eventOf from p) (matchOf (s .requests) (eventOf from p)) z in
+        let q = none-holds (s .device) (s .requests) (eventOf from p) (matchOf (s .requests) (eventOf from p)) z in
         record {
           device = device-to s from p a (q .device);
           ack = ack-to s from p a (q .ack);
@@ -483,7 +483,7 @@ passes s from p k f h u = (allowed, zero-number)
     zero-number : Allowed s from p → numberFor (s .device) (s .requests) (eventOf from p) (matchOf (s .requests) (eventOf from p)) ≡ 0
     zero-number w =
         let r = reply-from s from p a u (w .reply) in
-        silent (s .device) (s .requests) (eventOf from p) (matchOf (s .requests) (eventOf from p))
+        holds-none (s .device) (s .requests) (eventOf from p) (matchOf (s .requests) (eventOf from p))
         (record {
           device = device-from s from p a (w .device);
           ack = ack-from s from p a (w .ack);

@@ -1,6 +1,6 @@
 -- A late reply is never handed to another request. What is shown of a packet that came out of the wire checks:
 -- it passes exactly when it is allowed (`allowed-exactly`); a reply passes exactly when a live request matches it and is not shorter, or
--- it is unsolicited (`reply-passes`); it is then handed to that one request, whose place it frees (`reply-handed`); after that no
+-- it is unsolicited (`reply-passes`); it is then handed to that one request, whose place it frees (`reply-consumes`); after that no
 -- request with its id waits (`answered-for-good`); and where none does, it is refused and frees nothing (`late`).
 -- Assumes nothing.
 use Prim.Native.Nat.{ℕ, _≤_, _<_}
@@ -39,14 +39,14 @@ use Rattle.session.specs.Step.{scopeOf, judged}
 use Rattle.scan.specs.Logic.{and-parts, and-whole, failing, or-none, false-not}
 use Rattle.claims.specs.Allowed.{among, oneOf, isReply, answersKind, carriesTarget, inwardOf, replyTarget, countOf, Answers, Unsolicited, Allowed}
 use Rattle.claims.specs.Agree.{Facts, factsOf, factsBy, agrees}
-use Rattle.claims.specs.Passes.{Quiet, silent, passes, answers-to, match-is, alone-to, reply-from, unsolicited-is}
-use Rattle.claims.specs.Steps.{after, number-is, clean, from-host, reply-does, calm, Freed, reply-frees, unmatched-keeps, NoLive, answered-once, Late, late-reply}
+use Rattle.claims.specs.Passes.{NoneHolds, holds-none, passes, answers-to, match-is, alone-to, reply-from, unsolicited-is}
+use Rattle.claims.specs.Steps.{after, number-is, clean, from-host, reply-does, none-held, Freed, reply-frees, unmatched-keeps, NoLive, answered-once, Late, late-reply}
 
 -- ---- what is said of a reply
 
 -- the data request at place j ends with the one at place i: "8 with status 0 to a 6 frees every data request (kind 100, 101 or 103) ..
 -- 11 with status 0 to a 9 does so for rows other than 0 and 16 of that interface"
-pub record EndsToo (s : Session) (p : Content) (i j : ℕ) : Type 0 where
+pub record EndsWith (s : Session) (p : Content) (i j : ℕ) : Type 0 where
   pub live : placeAt (s .requests) j .live ≡ true
   pub kind : isData (placeAt (s .requests) j .request .kind) ≡ true
   pub status : field "status" p ≡ 0
@@ -55,7 +55,7 @@ pub record EndsToo (s : Session) (p : Content) (i j : ℕ) : Type 0 where
       × (touched (s .device .rows) (OfInterface (placeAt (s .requests) i .request .target)) (record { 0 = placeAt (s .requests) j .request .target }) ≡ true))
 
 -- the reply is handed to the request at place i
-pub record HandedTo (s : Session) (p : Content) (next : Session) (i : ℕ) : Type 0 where
+pub record Consumes (s : Session) (p : Content) (next : Session) (i : ℕ) : Type 0 where
   -- a live one with its id, of a kind that it answers, on its endpoint or interface; and the reply is not longer
   pub answers : Answers (s .requests) p i
   pub short : countOf p ≤ placeAt (s .requests) i .request .length
@@ -63,9 +63,9 @@ pub record HandedTo (s : Session) (p : Content) (next : Session) (i : ℕ) : Typ
   pub only : (j : ℕ) → j < length (s .requests .places) → placeAt (s .requests) j .live ≡ true → placeAt (s .requests) j .request .id ≡ p .id → j ≡ i
   -- its place is free, as at the start; every other place stays as it was, but for the data requests that end with a setting
   pub freed : placeAt (next .requests) i ≡ freePlace
-  pub others : (j : ℕ) → (j ≡ i → ⊥) → (placeAt (next .requests) j ≡ placeAt (s .requests) j) ⊎ (EndsToo s p i j × (placeAt (next .requests) j ≡ freePlace))
+  pub others : (j : ℕ) → (j ≡ i → ⊥) → (placeAt (next .requests) j ≡ placeAt (s .requests) j) ⊎ (EndsWith s p i j × (placeAt (next .requests) j ≡ freePlace))
   -- and those are freed
-  pub ended : (j : ℕ) → (j ≡ i → ⊥) → EndsToo s p i j → placeAt (next .requests) j ≡ freePlace
+  pub ended : (j : ℕ) → (j ≡ i → ⊥) → EndsWith s p i j → placeAt (next .requests) j ≡ freePlace
 
 -- a reply to a session in which no request with its id waits
 pub record LateReply (s : Session) (from : Side) (p : Content) : Type 0 where
@@ -137,7 +137,7 @@ module _ (s : Session) (from : Side) (p : Content) (w : wireNumber (linkOf from 
             let c = reply-does (e .class) replying in
             let d = c .2 (s .device) in
             number-is s e
-            ∙ silent (s .device) (s .requests) e (matchOf (s .requests) e)
+            ∙ holds-none (s .device) (s .requests) e (matchOf (s .requests) e)
             (record {
               device = failing (traitsOf (e .class) .device) (not (s .device .present)) (λ k. false-not (s .device .present) h);
               ack = ap (λ (b : Bool). b && s .device .owed) (d .1);
@@ -168,7 +168,7 @@ module _ (s : Session) (from : Side) (p : Content) (w : wireNumber (linkOf from 
       scope = scopeOf e (Matched i q)
 
       -- the data requests that end with it are those that document 01 names
-      ends-too : ends (s .device .rows) scope (placeAt (s .requests) j) ≡ true → EndsToo s p i j
+      ends-too : ends (s .device .rows) scope (placeAt (s .requests) j) ≡ true → EndsWith s p i j
       unfolding touched eventOf
       ends-too h =
           let x = and-parts _ (touched (s .device .rows) scope target) h in
@@ -188,7 +188,7 @@ module _ (s : Session) (from : Side) (p : Content) (w : wireNumber (linkOf from 
               inr (nine, ap (λ (n : ℕ). touched (s .device .rows) (OfInterface n) target) (same-interface i a nine) ∙ (rw (z, x, y) at t)))
               (λ y. absurd (false≢true (rw (z, x, y) at t))))
 
-      too-ends : EndsToo s p i j → ends (s .device .rows) scope (placeAt (s .requests) j) ≡ true
+      too-ends : EndsWith s p i j → ends (s .device .rows) scope (placeAt (s .requests) j) ≡ true
       unfolding touched eventOf
       too-ends x = and-whole _ (touched (s .device .rows) scope target) (and-whole (placeAt (s .requests) j .live) _ (x .live) (x .kind)) (by-kind (x .scope))
         where
@@ -208,12 +208,12 @@ module _ (s : Session) (from : Side) (p : Content) (w : wireNumber (linkOf from 
     match-at o x = match-is s from p agreed r ∙ ap (matchIn (s .requests)) x
 
     -- a reply that passes is handed to the one request that it answers, or it is unsolicited and handed to none
-    pub reply-handed : idsDiffer (s .requests .places) ≡ true → judged s e .number ≡ 0
-        → ((i : ℕ) × HandedTo s p (judged s e .session) i) ⊎ (Unsolicited (s .requests) p × (judged s e .session .requests ≡ s .requests))
+    pub reply-consumes : idsDiffer (s .requests .places) ≡ true → judged s e .number ≡ 0
+        → ((i : ℕ) × Consumes s p (judged s e .session) i) ⊎ (Unsolicited (s .requests) p × (judged s e .session .requests ≡ s .requests))
     unfolding eventOf
-    reply-handed u z = go (lowest (s .requests) query) refl
+    reply-consumes u z = go (lowest (s .requests) query) refl
       where
-        handed : (i : ℕ) → Freed s e i (placeAt (s .requests) i .request) → HandedTo s p (judged s e .session) i
+        handed : (i : ℕ) → Freed s e i (placeAt (s .requests) i .request) → Consumes s p (judged s e .session) i
         handed i f =
             let a = answers-to s from p agreed r i (f .within) (and-whole (placeAt (s .requests) i .live) _ (f .live) (f .answered)) in
             record {
@@ -228,9 +228,9 @@ module _ (s : Session) (from : Side) (p : Content) (w : wireNumber (linkOf from 
               ended = λ j n x. f .others j n ∙ rw (too-ends i a j x);
             }
 
-        go : (o : Option ℕ) → lowest (s .requests) query ≡ o → ((i : ℕ) × HandedTo s p (judged s e .session) i) ⊎ (Unsolicited (s .requests) p × (judged s e .session .requests ≡ s .requests))
+        go : (o : Option ℕ) → lowest (s .requests) query ≡ o → ((i : ℕ) × Consumes s p (judged s e .session) i) ⊎ (Unsolicited (s .requests) p × (judged s e .session .requests ≡ s .requests))
         go none x =
-            inr (alone-to s from p agreed r x (sym (ap (noSuchRequest e) (match-at none x)) ∙ calm s e z .matched), unmatched-keeps s e replying (match-at none x))
+            inr (alone-to s from p agreed r x (sym (ap (noSuchRequest e) (match-at none x)) ∙ none-held s e z .matched), unmatched-keeps s e replying (match-at none x))
         go (some i) x = inl (i, handed i (reply-frees s e i (placeAt (s .requests) i .request) z (match-at (some i) x)))
 
     -- once it has been handed to a request, no request with its id waits
@@ -239,7 +239,7 @@ module _ (s : Session) (from : Side) (p : Content) (w : wireNumber (linkOf from 
     answered-for-good u z n = go (lowest (s .requests) query) refl
       where
         go : (o : Option ℕ) → lowest (s .requests) query ≡ o → NoLive (judged s e .session .requests) (p .id)
-        go none x = absurd (n (alone-to s from p agreed r x (sym (ap (noSuchRequest e) (match-at none x)) ∙ calm s e z .matched)))
+        go none x = absurd (n (alone-to s from p agreed r x (sym (ap (noSuchRequest e) (match-at none x)) ∙ none-held s e z .matched)))
         go (some i) x = answered-once s e i (placeAt (s .requests) i .request) z (match-at (some i) x) u
 
     -- where no request with its id waits, it is refused, but for an unsolicited status, and it frees nothing

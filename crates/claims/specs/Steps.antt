@@ -22,7 +22,7 @@ use Rattle.header.specs.Link.{sharedSet}
 use Rattle.kinds.specs.Table.{Kind, kinds}
 use Rattle.kinds.specs.Content.{Content, shared, find}
 use Rattle.kinds.specs.Number.{isGuest, sends, surplus, wideId, sizeOk, bad, isNone, streamsAlone, kindNumber, byKind, wireNumber}
-use Rattle.kinds.specs.RoundTrip.{none-holds}
+use Rattle.kinds.specs.RoundTrip.{none-holds as wire-none-holds}
 use Rattle.device.specs.declared.Device.{Device}
 use Rattle.device.specs.declared.Scope.the-variants.{Nowhere}
 use Rattle.requests.specs.declared.Place.{Place}
@@ -44,7 +44,7 @@ use Rattle.session.specs.Step.{scopeOf, asked, takenAt, answered, requestsAfter
 use Rattle.scan.specs.Logic.{and-parts, fails}
 use Rattle.claims.specs.Allowed.{among, isReply, inwardOf}
 use Rattle.claims.specs.Agree.{Facts, agrees}
-use Rattle.claims.specs.Passes.{Quiet, quiet}
+use Rattle.claims.specs.Passes.{NoneHolds, none-holds}
 
 -- the session after a packet
 abbrev pub after : Session → Event → Session
@@ -204,9 +204,9 @@ module _ (s : Session) (e : Event) (r : Role) (d : Does (e .class) r) where
   requests-kept k = step s e (λ (x : Session). x .requests ≡ s .requests) refl (λ z. next-requests ∙ k)
 
 -- no check holds of a packet that passes
-pub calm : (s : Session) (e : Event) → judged s e .number ≡ 0 → Quiet (s .device) (s .requests) e (matchOf (s .requests) e)
+pub none-held : (s : Session) (e : Event) → judged s e .number ≡ 0 → NoneHolds (s .device) (s .requests) e (matchOf (s .requests) e)
 unfolding numberOf
-calm s e z = quiet (s .device) (s .requests) e (matchOf (s .requests) e) (sym (number-is s e) ∙ z)
+none-held s e z = none-holds (s .device) (s .requests) e (matchOf (s .requests) e) (sym (number-is s e) ∙ z)
 
 -- ---- packets that are neither a request nor a reply
 
@@ -242,7 +242,7 @@ request-takes s e h z = go (lowest t Free) refl room (requests-passed s e asking
     t = s .requests
 
     room : isSome (lowest t Free) ≡ true
-    room = not-false (isSome (lowest t Free)) (fails (traitsOf (e .class) .request) (not (isSome (lowest t Free))) (calm s e z .room) h)
+    room = not-false (isSome (lowest t Free)) (fails (traitsOf (e .class) .request) (not (isSome (lowest t Free))) (none-held s e z .room) h)
 
     go : (o : Option ℕ) → lowest t Free ≡ o → isSome o ≡ true → after s e .requests ≡ takenAt t (e .request) o → Taken s e
     go none f g a = absurd (false≢true g)
@@ -351,7 +351,7 @@ module _ (s : Session) (e : Event) (i : ℕ) (q : Request) (z : judged s e .numb
         live = found .live;
         request = found .request;
         answered = found .answered;
-        short = ltb-false (q .length) (e .request .length) (sym (ap (tooLong e) m) ∙ calm s e z .short);
+        short = ltb-false (q .length) (e .request .length) (sym (ap (tooLong e) m) ∙ none-held s e z .short);
         freed = place-after i freePlace (place-set (s .requests) i freePlace (found .within));
         others = λ j n. place-after j (placeAt (s .requests) j) (place-other (s .requests) i j freePlace (λ k. n (sym k)));
       }
@@ -456,7 +456,7 @@ clean l p z = go (find (p .kind) kinds) refl z
     go (some k) f n =
         let caps = sharedSet l in
         let h =
-        none-holds (not (sends (k .sender) (l .sender)))
+        wire-none-holds (not (sends (k .sender) (l .sender)))
         (not (shared caps (k .needs)) || surplus caps (k .fields) (p .fields) || wideId l p)
         (not (sizeOk (l .sender) k p))
         (not (isNone (bad (l .sender) caps k p)))

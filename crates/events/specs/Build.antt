@@ -13,40 +13,40 @@ use Rattle.requests.specs.declared.Answers.{Answers}
 use Rattle.events.specs.declared.Class.{Class}
 use Rattle.events.specs.declared.Class.the-variants.{PlainRequest, StreamStatus, PlainReply, StreamData}
 use Rattle.events.specs.declared.Typed.{Typed}
-use Rattle.events.specs.declared.Typed.the-variants.{Untyped, Row, Mask}
+use Rattle.events.specs.declared.Typed.the-variants.{Untyped, OfEndpoint, OfMask}
 use Rattle.events.specs.declared.Event.{Event}
 
 abbrev pub answering : ℕ → ℕ → Bool → Answers
 answering m n t = record { first = m; second = n; targeted = t }
 
-abbrev pub told : ℕ → ℕ → ℕ → ℕ → Request
-told kind id t n = record { id = id; kind = kind; target = t; length = n }
+abbrev pub requestWith : ℕ → ℕ → ℕ → ℕ → Request
+requestWith kind id t n = record { id = id; kind = kind; target = t; length = n }
 
 abbrev pub built : Side → Class → Request → Answers → Typed → ℕ → Event
 built from c r a t st = record { sender = from; class = c; request = r; answers = a; typed = t; status = st; word = 0; rows = startRows }
 
 -- a packet without endpoint, interface, length or status
 abbrev pub plainEvent : Side → ℕ → ℕ → Class → Event
-plainEvent from kind id c = built from c (told kind id 0 0) (answering 0 0 false) Untyped 0
+plainEvent from kind id c = built from c (requestWith kind id 0 0) (answering 0 0 false) Untyped 0
 
 -- a request about an interface
 abbrev pub interfaceEvent : Side → ℕ → ℕ → ℕ → Event
-interfaceEvent from kind id i = built from PlainRequest (told kind id i 0) (answering 0 0 true) Untyped 0
+interfaceEvent from kind id i = built from PlainRequest (requestWith kind id i 0) (answering 0 0 true) Untyped 0
 
 -- a request or stream data on an endpoint of a type
 abbrev pub endpointEvent : Side → ℕ → ℕ → Class → Endpoint → ℕ → ℕ → ℕ → Event
-endpointEvent from kind id c e k n st = built from c (told kind id (e .0) n) (answering 0 0 true) (Row e k) st
+endpointEvent from kind id c e k n st = built from c (requestWith kind id (e .0) n) (answering 0 0 true) (OfEndpoint e k) st
 
 -- a request about a mask of rows of a type
 abbrev pub maskEvent : Side → ℕ → ℕ → ℕ → ℕ → Event
-maskEvent from kind id m k = built from PlainRequest (told kind id 0 0) (answering 0 0 false) (Mask m k) 0
+maskEvent from kind id m k = built from PlainRequest (requestWith kind id 0 0) (answering 0 0 false) (OfMask m k) 0
 
 abbrev pub replyEvent : Side → ℕ → ℕ → ℕ → ℕ → ℕ → Answers → Event
-replyEvent from kind id t n st a = built from PlainReply (told kind id t n) a Untyped st
+replyEvent from kind id t n st a = built from PlainReply (requestWith kind id t n) a Untyped st
 
 -- a status of a stream of a type
 abbrev pub statusEvent : Side → ℕ → ℕ → Endpoint → ℕ → ℕ → ℕ → ℕ → Event
-statusEvent from kind id e k st m n = built from StreamStatus (told kind id (e .0) 0) (answering m n true) (Row e k) st
+statusEvent from kind id e k st m n = built from StreamStatus (requestWith kind id (e .0) 0) (answering m n true) (OfEndpoint e k) st
 
 abbrev pub withWord : ℕ → Event → Event
 withWord w e = record { sender = e .sender; class = e .class; request = e .request; answers = e .answers; typed = e .typed; status = e .status; word = w; rows = e .rows }

@@ -23,7 +23,7 @@ use Rattle.device.specs.declared.Rows.{Rows}
 use Rattle.device.specs.Device.{startRows}
 use Rattle.scan.specs.Scan.{eachAt}
 use Rattle.events.specs.declared.Typed.{Typed}
-use Rattle.events.specs.declared.Typed.the-variants.{Untyped, Row, Mask}
+use Rattle.events.specs.declared.Typed.the-variants.{Untyped, OfEndpoint, OfMask}
 use Rattle.events.specs.declared.Event.{Event}
 use Rattle.events.specs.Meaning.{About, nothing, endpoint, interface, mask, Meaning, meanings, lookUp}
 
@@ -52,9 +52,9 @@ isTargeted mask = false
 abbrev pub typedOf : Option ℕ → About → Content → Typed
 typedOf none a p = Untyped
 typedOf (some k) nothing p = Untyped
-typedOf (some k) endpoint p = Row (record { 0 = field "endpoint" p }) k
+typedOf (some k) endpoint p = OfEndpoint (record { 0 = field "endpoint" p }) k
 typedOf (some k) interface p = Untyped
-typedOf (some k) mask p = Mask (field "mask" p) k
+typedOf (some k) mask p = OfMask (field "mask" p) k
 
 -- the first capability word of a hello; one without words offers nothing
 abbrev pub wordOf : Content → ℕ

@@ -5,7 +5,7 @@ ghost use Rattle.kinds.specs.Content.{split};
 ghost use Rattle.number.specs.Little.{le};
 ghost use Rattle.packet.specs.Packet.{inPart, columnsOf};
 ghost use Rattle.events.specs.Event.{Means, announcedIn};
-ghost use Rattle.events.specs.Build.{answering, built, told, plainEvent, interfaceEvent, endpointEvent, maskEvent, replyEvent, statusEvent, withWord, withRows, transferEvent, interruptEvent};
+ghost use Rattle.events.specs.Build.{answering, built, requestWith, plainEvent, interfaceEvent, endpointEvent, maskEvent, replyEvent, statusEvent, withWord, withRows, transferEvent, interruptEvent};
 ghost use Rattle.events.specs.declared.Class.the-variants.{Hello, Endpoints};
 use device::RowState;
 use device::Rows;
@@ -37,7 +37,7 @@ pub enum Class {
     // a request that opens a stream
     StartRequest,
     PlainRequest,
-    // the reply to a start or a stop of a stream, or a word of the host's own about it
+    // the reply to a start or a stop of a stream, or an unsolicited status
     StreamStatus,
     PlainReply,
     StreamData,
@@ -46,8 +46,8 @@ pub enum Class {
 // The rows that a packet is about, and the type that its kind wants them to have.
 pub enum Typed {
     Untyped,
-    Row(Endpoint, u8),
-    Mask(u32, u8),
+    OfEndpoint(Endpoint, u8),
+    OfMask(u32, u8),
 }
 
 pub struct Event {
@@ -76,7 +76,7 @@ fn answers_to(first: u8, second: u8, targeted: bool) -> Answers
 }
 
 fn request_of(kind: u8, id: u64, target: u8, length: u32) -> Request
-    ensures { λ r. ⌜ r ≡ told kind id target length ⌝ }
+    ensures { λ r. ⌜ r ≡ requestWith kind id target length ⌝ }
 {
     Request {
         id,
@@ -157,7 +157,7 @@ fn on_endpoint(
         class,
         request,
         answers_to(0, 0, true),
-        Typed::Row(endpoint, wants),
+        Typed::OfEndpoint(endpoint, wants),
         status,
     )
 }
@@ -172,7 +172,7 @@ fn about_mask(from: Side, kind: u8, id: u64, mask: u32, wants: u8) -> Event
         Class::PlainRequest,
         request,
         answers_to(0, 0, false),
-        Typed::Mask(mask, wants),
+        Typed::OfMask(mask, wants),
         0,
     )
 }
@@ -218,7 +218,7 @@ fn stream_status(
         Class::StreamStatus,
         request,
         answers_to(start, stop, true),
-        Typed::Row(endpoint, wants),
+        Typed::OfEndpoint(endpoint, wants),
         status,
     )
 }

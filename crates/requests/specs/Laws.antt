@@ -17,7 +17,7 @@ use Rattle.device.specs.declared.Scope.the-variants.{Nowhere}
 use Rattle.device.specs.Device.{touched}
 use Rattle.scan.specs.Scan.{exists, eachAt}
 use Rattle.scan.specs.Logic.{and-parts}
-use Rattle.scan.specs.Laws.{first-found, first-lowest, first-absent, first-none, exists-at, exists-not, getD-set, each-at, each-length, each-same, each-anywhere}
+use Rattle.scan.specs.Laws.{first-found, first-lowest, first-absent, first-never, exists-at, exists-not, getD-set, each-at, each-length, each-same, each-anywhere}
 use Rattle.requests.specs.declared.Request.{Request}
 use Rattle.requests.specs.declared.Place.{Place}
 use Rattle.requests.specs.declared.Requests.{Requests}
@@ -218,4 +218,4 @@ module _ (t : Requests) (q : Query) where
   -- where no place meets it, none is found
   pub lowest-none : ((j : ℕ) → j < length (t .places) → meets q (placeAt t j) ≡ false) → lowest t q ≡ none
   unfolding lowest
-  lowest-none h = first-none (meets q) (t .places) freePlace h
+  lowest-none h = first-never (meets q) (t .places) freePlace h

@@ -158,8 +158,8 @@ module _ {A : Type 0} (p : ℕ → A → Bool) where
 
 -- ---- a search that finds none
 
-pub first-none : {A : Type 0} (p : A → Bool) (l : List A) (d : A) → ((j : ℕ) → j < length l → p (getD l j d) ≡ false) → firstAt p 0 l ≡ none
-first-none p l d h = go (firstAt p 0 l) refl
+pub first-never : {A : Type 0} (p : A → Bool) (l : List A) (d : A) → ((j : ℕ) → j < length l → p (getD l j d) ≡ false) → firstAt p 0 l ≡ none
+first-never p l d h = go (firstAt p 0 l) refl
   where
     go : (o : Option ℕ) → firstAt p 0 l ≡ o → firstAt p 0 l ≡ none
     go none q = q

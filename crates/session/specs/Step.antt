@@ -22,7 +22,7 @@ use Rattle.requests.specs.Requests.{freePlace, freshRequests, taken, lowest, wi
 use Rattle.events.specs.declared.Class.{Class}
 use Rattle.events.specs.declared.Class.the-variants.{Hello as HelloClass, Connect, Interfaces, Endpoints, Disconnect, Reset, Ack, Cancel, Filter, StartRequest, PlainRequest, StreamStatus, PlainReply, StreamData}
 use Rattle.events.specs.declared.Typed.{Typed}
-use Rattle.events.specs.declared.Typed.the-variants.{Untyped, Row, Mask}
+use Rattle.events.specs.declared.Typed.the-variants.{Untyped, OfEndpoint, OfMask}
 use Rattle.events.specs.declared.Event.{Event}
 use Rattle.checks.specs.Checks.{matchOf, numberFor}
 use Rattle.checks.specs.declared.Match.{Match}
@@ -33,9 +33,9 @@ use Rattle.session.specs.Session.{isShared}
 
 -- ---- hellos: the first capability word of a side's hello; one that has passed stays as it is
 
-abbrev pub greeted : Hello → ℕ → Hello
-greeted Awaited word = Passed word
-greeted (Passed w) word = Passed w
+abbrev pub keptHello : Hello → ℕ → Hello
+keptHello Awaited word = Passed word
+keptHello (Passed w) word = Passed w
 
 abbrev pub isHello : Class → Bool
 isHello HelloClass = true
@@ -54,7 +54,7 @@ isHello PlainReply = false
 isHello StreamData = false
 
 abbrev pub helloAfter : Class → Bool → ℕ → Hello → Hello
-helloAfter c own word h = cond (isHello c && own) (greeted h word) h
+helloAfter c own word h = cond (isHello c && own) (keptHello h word) h
 
 -- ---- the device
 
@@ -76,8 +76,8 @@ acknowledged d = record { present = d .present; introduction = d .introduction; 
 -- a stream opened or closed: "only where the row's type is that kind's"
 abbrev pub streamBy : Rows → Typed → Bool → Rows
 streamBy rows Untyped b = rows
-streamBy rows (Row e k) b = streamTo rows e k b
-streamBy rows (Mask m k) b = rows
+streamBy rows (OfEndpoint e k) b = streamTo rows e k b
+streamBy rows (OfMask m k) b = rows
 
 -- "a status opens if it answers a start with 0 and otherwise closes"
 abbrev pub opens : Event → Match → Bool

@@ -3,7 +3,7 @@ ghost use mathlib.Core.Path.{_≡_};
 ghost use Rattle.device.specs.Device.{closed};
 ghost use Rattle.requests.specs.Requests.{released};
 ghost use Rattle.session.specs.Session.{freshSession, linkOf, isShared, heldBad, unfit};
-ghost use Rattle.session.specs.Step.{greeted, isHello, helloAfter, withRows, connected, introduced, acknowledged, streamBy, opens, scopeOf, replyRows, deviceAfter, asked, answered, requestsAfter, nextFor, judged};
+ghost use Rattle.session.specs.Step.{keptHello, isHello, helloAfter, withRows, connected, introduced, acknowledged, streamBy, opens, scopeOf, replyRows, deviceAfter, asked, answered, requestsAfter, nextFor, judged};
 use checks::Match;
 use checks::match_of;
 use checks::number_for;
@@ -120,8 +120,8 @@ pub fn is_unfit(s: Session) -> bool
         | !has_control_rows(rows)
 }
 
-fn greet(h: Hello, word: u32) -> Hello
-    ensures { λ r. ⌜ r ≡ greeted h word ⌝ }
+fn keep_hello(h: Hello, word: u32) -> Hello
+    ensures { λ r. ⌜ r ≡ keptHello h word ⌝ }
 {
     match h {
         Hello::Awaited => Hello::Passed(word),
@@ -154,7 +154,11 @@ fn is_hello(c: Class) -> bool
 fn hello_after(c: Class, own: bool, word: u32, h: Hello) -> Hello
     ensures { λ r. ⌜ r ≡ helloAfter c own word h ⌝ }
 {
-    if is_hello(c) & own { greet(h, word) } else { h }
+    if is_hello(c) & own {
+        keep_hello(h, word)
+    } else {
+        h
+    }
 }
 
 fn with_rows(d: Device, rows: Rows) -> Device
@@ -201,8 +205,8 @@ fn stream_by(rows: Rows, typed: Typed, streaming: bool) -> Rows
 {
     match typed {
         Typed::Untyped => rows,
-        Typed::Row(endpoint, kind) => set_stream(rows, endpoint, kind, streaming),
-        Typed::Mask(_, _) => rows,
+        Typed::OfEndpoint(endpoint, kind) => set_stream(rows, endpoint, kind, streaming),
+        Typed::OfMask(_, _) => rows,
     }
 }
 
