@@ -1,4 +1,5 @@
--- Runs of the judge on packets, by computation: the readings of document 01's session rules where they are easily taken otherwise.
+-- Runs of wire checks and judge on packets, by computation: the readings of document 01's session rules where they are easily taken
+-- otherwise. A packet that the wire checks refuse would show their number.
 -- Assumes nothing.
 use Prim.Native.Nat.{ℕ, zero, suc}
 use mathlib.Core.Bool.{Bool, true, false, cond}
@@ -6,12 +7,14 @@ use mathlib.Core.List.{List, [], _∷_, _++_}
 use mathlib.Core.Option.{none, some}
 use mathlib.Core.Path.{_≡_, refl}
 use lib.ListN.{replicate, set}
-use Rattle.header.specs.Link.{sharedSet}
+use lib.Dec.{eqb}
+use Rattle.header.specs.Link.{sharedSet, idWidth}
 use Rattle.header.specs.declared.Side.{Side}
 use Rattle.header.specs.declared.Side.the-variants.{Guest, Host}
 use Rattle.kinds.specs.Table.{kinds}
 use Rattle.kinds.specs.Content.{Value, one, Content}
 use Rattle.kinds.specs.Codec.{layout}
+use Rattle.kinds.specs.Number.{onward, bad, kindNumber, wireNumber}
 use Rattle.scan.specs.Scan.{firstAt, exists, anyAt, eachAt}
 use Rattle.device.specs.Device.{startRows, startDevice, replaced, streamTo, closed, touched}
 use Rattle.requests.specs.Requests.{freshRequests, lowest, withPlace, released}
@@ -20,7 +23,7 @@ use Rattle.events.specs.Event.{meaningOf, eventOf}
 use Rattle.checks.specs.Checks.{matchOf, numberFor}
 use Rattle.session.specs.declared.Session.{Session}
 use Rattle.session.specs.declared.Judged.{Judged}
-use Rattle.session.specs.Session.{freshSession}
+use Rattle.session.specs.Session.{freshSession, linkOf}
 use Rattle.session.specs.Step.{nextFor, judged}
 
 -- ---- packets
@@ -29,8 +32,15 @@ pub record Sent : Type 0 where
   pub from : Side
   pub packet : Content
 
+abbrev carrying : Side → ℕ → ℕ → List Value → List ℕ → Sent
+carrying from kind id fs rest = record { from = from; packet = record { kind = kind; id = id; fields = fs; rest = rest } }
+
 abbrev sent : Side → ℕ → ℕ → List Value → Sent
-sent from kind id fs = record { from = from; packet = record { kind = kind; id = id; fields = fs; rest = [] } }
+sent from kind id fs = carrying from kind id fs []
+
+-- so many bytes of data, where the sender's data goes that way
+abbrev dataFor : Side → ℕ → ℕ → List ℕ
+dataFor from e n = cond (onward from e) (replicate n 0) []
 
 abbrev guest : ℕ → ℕ → List Value → Sent
 guest kind id fs = sent Guest kind id fs
@@ -40,14 +50,14 @@ host kind id fs = sent Host kind id fs
 
 -- a hello that offers the bits of a byte
 abbrev hello : Side → ℕ → Sent
-hello from bits = record { from = from; packet = record { kind = 0; id = 0; fields = some (replicate 64 0) ∷ []; rest = bits ∷ 0 ∷ 0 ∷ 0 ∷ [] } }
+hello from bits = carrying from 0 0 (some (replicate 64 0) ∷ []) (bits ∷ 0 ∷ 0 ∷ 0 ∷ [])
 
 -- an endpoint table whose rows are of a type each, given for rows 1, 17, 2, 18, 3 and 19, and of an interface each
 abbrev rowsWith : ℕ → ℕ → ℕ → ℕ → ℕ → ℕ → List ℕ
 rowsWith a b c d e f = set (set (set (set (set (set (set (set (replicate 32 255) 0 0) 16 0) 1 a) 17 b) 2 c) 18 d) 3 e) 19 f
 
 abbrev table : List ℕ → List ℕ → Sent
-table types interfaces = host 5 0 (some types ∷ some (replicate 32 0) ∷ some interfaces ∷ none ∷ none ∷ [])
+table types interfaces = host 5 0 (some types ∷ some (replicate 32 0) ∷ some interfaces ∷ some (replicate 32 0) ∷ some (replicate 32 0) ∷ [])
 
 -- endpoint 1 is iso of interface 0, endpoint 2 bulk of interface 1, endpoint 3 interrupt of interface 2; OUT and IN alike
 abbrev plainInterfaces : List ℕ
@@ -60,7 +70,7 @@ abbrev interfaceTable : Sent
 interfaceTable = host 4 0 (one 0 ∷ some (replicate 32 0) ∷ some (replicate 32 0) ∷ some (replicate 32 0) ∷ some (replicate 32 0) ∷ [])
 
 abbrev connect : Sent
-connect = host 1 0 (one 0 ∷ one 0 ∷ one 0 ∷ one 0 ∷ one 0 ∷ one 0 ∷ none ∷ [])
+connect = host 1 0 (one 0 ∷ one 0 ∷ one 0 ∷ one 0 ∷ one 0 ∷ one 0 ∷ one 0 ∷ [])
 
 abbrev disconnect : Sent
 disconnect = host 2 0 []
@@ -111,16 +121,19 @@ abbrev start-bulk : ℕ → ℕ → Sent
 start-bulk id e = guest 25 id (one 1 ∷ one 512 ∷ one e ∷ one 1 ∷ [])
 
 abbrev control : Side → ℕ → ℕ → ℕ → Sent
-control from id e n = sent from 100 id (one e ∷ one 6 ∷ one e ∷ one 0 ∷ one 0 ∷ one 0 ∷ one n ∷ [])
+control from id e n = carrying from 100 id (one e ∷ one 6 ∷ one e ∷ one 0 ∷ one 0 ∷ one 0 ∷ one n ∷ []) (dataFor from e n)
 
 abbrev bulk : Side → ℕ → ℕ → ℕ → Sent
-bulk from id e n = sent from 101 id (one e ∷ one 0 ∷ one n ∷ one 0 ∷ one 0 ∷ [])
+bulk from id e n = carrying from 101 id (one e ∷ one 0 ∷ one n ∷ one 0 ∷ one 0 ∷ []) (dataFor from e n)
 
 abbrev iso : Side → ℕ → ℕ → Sent
 iso from id e = sent from 102 id (one e ∷ one 0 ∷ one 0 ∷ [])
 
 abbrev interrupt : Side → ℕ → ℕ → ℕ → Sent
-interrupt from id e n = sent from 103 id (one e ∷ one 0 ∷ one n ∷ [])
+interrupt from id e n = carrying from 103 id (one e ∷ one 0 ∷ one n ∷ []) (dataFor from e n)
+
+abbrev filter : Side → Sent
+filter from = carrying from 23 0 [] (0 ∷ [])
 
 abbrev buffered : ℕ → ℕ → Sent
 buffered stream e = host 104 7 (one stream ∷ one 0 ∷ one e ∷ one 0 ∷ [])
@@ -132,13 +145,20 @@ asks (suc n) = get-config (suc n) ∷ asks n
 
 -- ---- runs
 
+-- the number of a packet and the session after it: what the wire checks refuse is not judged
+unfoldable pub told : Session → Sent → Judged
+told s x =
+    cond (eqb (wireNumber (linkOf (x .from) s) (x .packet)) 0)
+    (judged s (eventOf (x .from) (x .packet)))
+    (record { session = s; number = wireNumber (linkOf (x .from) s) (x .packet) })
+
 unfoldable pub after : Session → List Sent → Session
 after s [] = s
-after s (x ∷ xs) = after (judged s (eventOf (x .from) (x .packet)) .session) xs
+after s (x ∷ xs) = after (told s x .session) xs
 
 unfoldable pub numbers : Session → List Sent → List ℕ
 numbers s [] = []
-numbers s (x ∷ xs) = judged s (eventOf (x .from) (x .packet)) .number ∷ numbers (judged s (eventOf (x .from) (x .packet)) .session) xs
+numbers s (x ∷ xs) = told s x .number ∷ numbers (told s x .session) xs
 
 abbrev greetings : ℕ → List Sent
 greetings bits = hello Guest bits ∷ hello Host 255 ∷ []
@@ -164,9 +184,9 @@ without bits xs ns = record { before = greetings bits; sends = xs; gets = ns }
 abbrev with-live : ℕ → List Sent → List ℕ → Run
 with-live n xs ns = record { before = greetings 255 ++ introduction ++ asks n; sends = xs; gets = ns }
 
-abbrev numbersOf : List Run → List (List ℕ)
-numbersOf [] = []
-numbersOf (r ∷ rs) = numbers (after freshSession (r .before)) (r .sends) ∷ numbersOf rs
+abbrev answersOf : List Run → List (List ℕ)
+answersOf [] = []
+answersOf (r ∷ rs) = numbers (after freshSession (r .before)) (r .sends) ∷ answersOf rs
 
 abbrev expectedOf : List Run → List (List ℕ)
 expectedOf [] = []
@@ -183,11 +203,11 @@ devices =
     -- with a device 4 and 5 pass
     ∷ then-sends (interfaceTable ∷ plainTable ∷ interfaceTable ∷ []) (0 ∷ 0 ∷ 0 ∷ [])
     -- without a device all but 0, 1, 4, 5, 22, 23, 24 get 25: cancel and reset too
-    ∷ without 255 (cancel 1 ∷ reset ∷ disconnect ∷ get-config 1 ∷ config-status 1 0 ∷ iso Host 0 129 ∷ guest 22 0 [] ∷ guest 23 0 [] ∷ host 23 0 [] ∷ ack ∷ []) (25 ∷ 25 ∷ 25 ∷ 25 ∷ 25 ∷ 25 ∷ 0 ∷ 0 ∷ 0 ∷ 26 ∷ [])
+    ∷ without 255 (cancel 1 ∷ reset ∷ disconnect ∷ get-config 1 ∷ config-status 1 0 ∷ iso Host 0 129 ∷ guest 22 0 [] ∷ filter Guest ∷ filter Host ∷ ack ∷ []) (25 ∷ 25 ∷ 25 ∷ 25 ∷ 25 ∷ 25 ∷ 0 ∷ 0 ∷ 0 ∷ 26 ∷ [])
     -- while an ack is owed 1, 4, 5 get 27, also where they would get 26; an ack clears it, once
     ∷ then-sends (disconnect ∷ connect ∷ interfaceTable ∷ plainTable ∷ get-config 1 ∷ guest 22 0 [] ∷ ack ∷ ack ∷ connect ∷ plainTable ∷ []) (0 ∷ 27 ∷ 27 ∷ 27 ∷ 25 ∷ 0 ∷ 0 ∷ 26 ∷ 26 ∷ 0 ∷ [])
-    -- without bit 3 none is owed
-    ∷ without 247 (plainTable ∷ interfaceTable ∷ connect ∷ disconnect ∷ ack ∷ plainTable ∷ []) (0 ∷ 0 ∷ 0 ∷ 0 ∷ 26 ∷ 0 ∷ [])
+    -- without bit 3 none is owed, and an ack is not allowed
+    ∷ without 247 (plainTable ∷ interfaceTable ∷ connect ∷ disconnect ∷ ack ∷ plainTable ∷ []) (0 ∷ 0 ∷ 0 ∷ 0 ∷ 22 ∷ 0 ∷ [])
     -- a disconnect frees every place and returns rows and streams to the start; the hellos stay
     ∷ then-sends (get-config 1 ∷ start-iso 2 129 ∷ iso Host 0 129 ∷ disconnect ∷ ack ∷ plainTable ∷ interfaceTable ∷ connect ∷ iso Host 0 129 ∷ config-status 1 0 ∷ get-config 1 ∷ []) (0 ∷ 0 ∷ 0 ∷ 0 ∷ 0 ∷ 0 ∷ 0 ∷ 0 ∷ 30 ∷ 33 ∷ 0 ∷ [])
     -- a reset frees every place, a set configuration that waits too, and closes all streams; rows and device stay
@@ -281,6 +301,6 @@ settings =
 abbrev runs : List Run
 runs = devices ++ rowsAndSettling ++ onStreams ++ matching ++ settings
 
-pub as-expected : numbersOf runs ≡ expectedOf runs
-unfolding after numbers freshSession judged numberFor matchOf nextFor eventOf meaningOf meanings layout kinds sharedSet startRows startDevice replaced streamTo closed touched freshRequests lowest withPlace released firstAt exists anyAt eachAt
+pub as-expected : answersOf runs ≡ expectedOf runs
+unfolding told after numbers wireNumber kindNumber bad idWidth freshSession judged numberFor matchOf nextFor eventOf meaningOf meanings layout kinds sharedSet startRows startDevice replaced streamTo closed touched freshRequests lowest withPlace released firstAt exists anyAt eachAt
 as-expected = refl
