@@ -18,14 +18,14 @@ use Rattle.kinds.specs.Number.{isGuest, sends}
 use Rattle.device.specs.declared.Device.{Device}
 use Rattle.device.specs.Device.{bulk}
 use Rattle.requests.specs.declared.Request.{Request}
-use Rattle.requests.specs.Requests.{answers}
+use Rattle.requests.specs.Requests.{noRequest, answers}
 use Rattle.events.specs.declared.Typed.{Typed}
 use Rattle.events.specs.declared.Typed.the-variants.{Untyped, OfEndpoint, OfMask}
 use Rattle.events.specs.declared.Event.{Event}
 use Rattle.events.specs.Meaning.{meanings}
 use Rattle.events.specs.Event.{field, meaningOf, eventOf}
 use Rattle.checks.specs.Checks.{traitsOf, outOfOrder, isBegun, isDone}
-use Rattle.claims.specs.Allowed.{among, isRequest, isReply, answersKind, carriesTarget, wants, onStream, endpointOf, inwardOf, replyTarget, countOf}
+use Rattle.claims.specs.Allowed.{among, isRequest, isReply, answersKind, carriesTarget, wants, onStream, endpointOf, inwardOf, replyTarget, countOf, requestOf}
 
 -- what the checks go by, of an event or of a packet
 pub record Facts : Type 0 where
@@ -39,6 +39,7 @@ pub record Facts : Type 0 where
   pub reply : Bool
   pub answers : Request → Bool
   pub unsolicited : Bool
+  pub kept : Request
 
 abbrev pub factsOf : Event → Facts
 factsOf e =
@@ -53,6 +54,7 @@ factsOf e =
       reply = traitsOf (e .class) .reply;
       answers = λ (q : Request). traitsOf (e .class) .reply && answers (e .request) (e .answers) q;
       unsolicited = traitsOf (e .class) .unsolicited;
+      kept = cond (traitsOf (e .class) .request) (e .request) noRequest;
     }
 
 -- ---- the same by document 01's lists
@@ -85,6 +87,7 @@ factsBy from p =
       reply = isReply from (p .kind) (inwardOf p);
       answers = λ (q : Request). isReply from (p .kind) (inwardOf p) && answersBy p q;
       unsolicited = among (14 ∷ 17 ∷ 27 ∷ []) (p .kind);
+      kept = cond (isRequest from (p .kind)) (requestOf p) noRequest;
     }
 
 -- ---- for each kind of the table, from whoever may send it

@@ -89,6 +89,15 @@ replyTarget p = cond (eqb (p .kind) 11) (field "interface" p) (field "endpoint" 
 abbrev pub countOf : Content → ℕ
 countOf p = dataLength (layout (p .kind)) (p .fields)
 
+-- the endpoint or interface byte of a request, "0 for what the kind lacks"
+abbrev pub requestTarget : Content → ℕ
+requestTarget p =
+    cond (among (12 ∷ 13 ∷ 15 ∷ 16 ∷ 25 ∷ 26 ∷ 100 ∷ 101 ∷ 103 ∷ []) (p .kind)) (field "endpoint" p) (cond (among (9 ∷ 10 ∷ []) (p .kind)) (field "interface" p) 0)
+
+-- what a place keeps of it: "id, kind, endpoint or interface byte, and length"
+abbrev pub requestOf : Content → Request
+requestOf p = record { id = p .id; kind = p .kind; target = requestTarget p; length = countOf p }
+
 -- ---- the request that a reply answers
 
 -- the live request at place i has the reply's id, a kind that it answers and, where both carry one, its endpoint or interface

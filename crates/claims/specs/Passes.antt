@@ -127,7 +127,7 @@ module _ (t : Requests) (q : Query) where
       go none e f = absurd (false≢true f)
       go (some i) e f = let r = first-found (meets q) (t .places) i freePlace e in (i, r .0, r .1)
 
-  at-some : (i : ℕ) → i < length (t .places) → meets q (placeAt t i) ≡ true → isSome (lowest t q) ≡ true
+  pub at-some : (i : ℕ) → i < length (t .places) → meets q (placeAt t i) ≡ true → isSome (lowest t q) ≡ true
   at-some i l e = cases (isSome (lowest t q)) (λ h. h) (λ h. absurd (true≢false (sym e ∙ none-when h i l)))
 
 -- ---- kinds

@@ -4,16 +4,16 @@
 -- The judge's number is 0 only where no check holds, and then the session is the next one. What that does to the requests goes by
 -- four roles of a class, and what stands at a place afterwards by the laws of the table.
 -- Assumes nothing.
-use Prim.Native.Nat.{ℕ, _≤_, _<_}
+use Prim.Native.Nat.{ℕ, zero, suc, _≤_, _<_}
 use mathlib.Core.Bool.{Bool, true, false, cond, not, _&&_, _||_, false≢true, true≢false}
 use mathlib.Core.List.{List, [], _∷_}
 use mathlib.Core.Logic.{_⊎_, inl, inr}
 use mathlib.Core.Option.{Option, none, some}
 use mathlib.Core.Path.{_≡_, refl, sym, ap, _∙_}
 use native.Mathlib.Omega.{arith}
-use lib.ListN.{length}
+use lib.ListN.{length, getD, replicate}
 use lib.Dec.{eqb}
-use borrow.Author.Tests.{eqb-true, eqb-false, ne-eqb, ltb-false, not-true, not-false}
+use borrow.Author.Tests.{eqb-true, eqb-false, eq-eqb, ne-eqb, ltb-false, not-true, not-false}
 use borrow.Table.Steps.{cases}
 use Rattle.header.specs.declared.Side.{Side}
 use Rattle.header.specs.declared.Side.the-variants.{Guest, Host}
@@ -29,9 +29,9 @@ use Rattle.requests.specs.declared.Place.{Place}
 use Rattle.requests.specs.declared.Request.{Request}
 use Rattle.requests.specs.declared.Requests.{Requests}
 use Rattle.requests.specs.declared.Query.{Query}
-use Rattle.requests.specs.declared.Query.the-variants.{Free, Answered}
+use Rattle.requests.specs.declared.Query.the-variants.{Free, Id, Answered}
 use Rattle.requests.specs.Requests.{noRequest, freePlace, taken, freshRequests, meets, answers, lowest, placeAt, withPlace, ends, released, idsDiffer}
-use Rattle.requests.specs.Laws.{place-set, place-other, with-place-length, released-length, released-at, released-nowhere, differ-when, lowest-found, lowest-lower, lowest-none}
+use Rattle.requests.specs.Laws.{place-set, place-other, with-place-length, released-length, released-at, released-nowhere, differ-when, live-within, lowest-found, lowest-lower, lowest-none}
 use Rattle.events.specs.declared.Class.{Class}
 use Rattle.events.specs.declared.Class.the-variants.{Hello, Connect, Interfaces, Endpoints, Disconnect, Reset, Ack, Cancel, Filter, StartRequest, PlainRequest, StreamStatus, PlainReply, StreamData}
 use Rattle.events.specs.declared.Event.{Event}
@@ -41,10 +41,10 @@ use Rattle.checks.specs.declared.Match.the-variants.{Unmatched, Matched}
 use Rattle.checks.specs.Checks.{traitsOf, isSome, outOfOrder, matchIn, matchOf, isUnmatched, isUnsolicited, tooLong, numberFor, numberOf}
 use Rattle.session.specs.declared.Session.{Session}
 use Rattle.session.specs.Step.{scopeOf, asked, takenAt, answered, requestsAfter, nextFor, judged}
-use Rattle.scan.specs.Logic.{and-parts, fails}
+use Rattle.scan.specs.Logic.{and-parts, and-whole, fails}
 use Rattle.claims.specs.Allowed.{among, isReply, inwardOf}
 use Rattle.claims.specs.Agree.{Facts, agrees}
-use Rattle.claims.specs.Passes.{NoneHolds, none-holds}
+use Rattle.claims.specs.Passes.{NoneHolds, none-holds, at-some}
 
 -- the session after a packet
 abbrev pub after : Session → Event → Session
@@ -400,6 +400,91 @@ module _ (s : Session) (e : Event) (i : ℕ) (q : Request) (z : judged s e .numb
 -- a reply that matches nothing leaves the requests as they were
 pub unmatched-keeps : (s : Session) (e : Event) → traitsOf (e .class) .reply ≡ true → matchOf (s .requests) e ≡ Unmatched → after s e .requests ≡ s .requests
 unmatched-keeps s e h m = requests-kept s e answering (reply-does (e .class) h) (ap (answered (s .requests) (s .device .rows) e) m)
+
+-- ---- any packet: a place is then free, as it was, or taken by the packet's own request
+
+abbrev pub PlaceAfter : Session → Event → ℕ → Type 0
+PlaceAfter s e j =
+    (placeAt (after s e .requests) j .live ≡ false)
+    ⊎ ((placeAt (after s e .requests) j ≡ placeAt (s .requests) j)
+    ⊎ ((traitsOf (e .class) .request ≡ true) × (judged s e .number ≡ 0) × (placeAt (after s e .requests) j ≡ taken (e .request))))
+
+free-everywhere : (n j : ℕ) → getD (replicate n freePlace) j freePlace ≡ freePlace
+free-everywhere zero j = refl
+free-everywhere (suc n) zero = refl
+free-everywhere (suc n) (suc j) = free-everywhere n j
+
+fresh-place : (j : ℕ) → placeAt freshRequests j .live ≡ false
+unfolding freshRequests
+fresh-place j = ap (λ (p : Place). p .live) (free-everywhere 96 j)
+
+pub place-after-any : (s : Session) (e : Event) (j : ℕ) → PlaceAfter s e j
+place-after-any s e j = cases (eqb (judged s e .number) 0) (λ z. by-role (roleOf (e .class)) (does (e .class)) (eqb-true (judged s e .number) 0 z)) unchanged
+  where
+    t : Requests
+    t = s .requests
+
+    unchanged : eqb (judged s e .number) 0 ≡ false → PlaceAfter s e j
+    unchanged z = inr (inl (ap (λ (x : Session). placeAt (x .requests) j) (refused s e (eqb-false (judged s e .number) 0 z))))
+
+    at : (u : Requests) → after s e .requests ≡ u → placeAt (after s e .requests) j ≡ placeAt u j
+    at u h = ap (λ (x : Requests). placeAt x j) h
+
+    freed-live : placeAt (after s e .requests) j ≡ freePlace → placeAt (after s e .requests) j .live ≡ false
+    freed-live h = ap (λ (p : Place). p .live) h
+
+    replying : (m : Match) → matchOf t e ≡ m → judged s e .number ≡ 0 → after s e .requests ≡ answered t (s .device .rows) e (matchOf t e) → PlaceAfter s e j
+    replying Unmatched m z h = inr (inl (at t (h ∙ ap (answered t (s .device .rows) e) m)))
+    replying (Matched i q) m z h =
+        let f = reply-frees s e i q z m in
+        cases (eqb j i)
+        (λ k. inl (freed-live (rw (eqb-true j i k) (f .freed))))
+        (λ k.
+        cases (ends (s .device .rows) (scopeOf e (Matched i q)) (placeAt t j))
+        (λ x. inl (freed-live (f .others j (eqb-false j i k) ∙ rw x)))
+        (λ x. inr (inl (f .others j (eqb-false j i k) ∙ rw x))))
+
+    by-role : (r : Role) → Does (e .class) r → judged s e .number ≡ 0 → PlaceAfter s e j
+    by-role leaving d z = inr (inl (at t (requests-passed s e leaving d z)))
+    by-role asking d z =
+        let h = request-takes s e (d .0) z in
+        cases (eqb j (h .place))
+        (λ k. inr (inr (d .0, z, rw (eqb-true j (h .place) k) (h .holds))))
+        (λ k. inr (inl (h .others j (eqb-false j (h .place) k))))
+    by-role answering d z = replying (matchOf t e) refl z (requests-passed s e answering d z)
+    by-role ending d z = inl (ap (λ (p : Place). p .live) (at freshRequests (requests-passed s e ending d z)) ∙ fresh-place j)
+
+-- ---- an id under which no request waits
+
+-- it stays so until a request with that id passes
+pub absent-kept : (s : Session) (e : Event) (n : ℕ) → NoLive (s .requests) n → (traitsOf (e .class) .request ≡ true → e .request .id ≡ n → ⊥) → NoLive (after s e .requests) n
+absent-kept s e n h f j l v k = go (place-after-any s e j)
+  where
+    go : PlaceAfter s e j → ⊥
+    go (inl x) = false≢true (sym x ∙ v)
+    go (inr (inl x)) =
+        let w : placeAt (s .requests) j .live ≡ true = sym (ap (λ (p : Place). p .live) x) ∙ v in
+        h j (live-within (s .requests .places) j w) w (sym (ap (λ (p : Place). p .request .id) x) ∙ k)
+    go (inr (inr x)) = f (x .0) (sym (ap (λ (p : Place). p .request .id) (x .2)) ∙ k)
+
+-- whatever ended the one request that waited under an id, none waits under it then
+pub ended-absent : (s : Session) (e : Event) (i : ℕ) → idsDiffer (s .requests .places) ≡ true → placeAt (s .requests) i .live ≡ true → placeAt (after s e .requests) i .live ≡ false → NoLive (after s e .requests) (placeAt (s .requests) i .request .id)
+ended-absent s e i u a b j l v k = go (place-after-any s e j)
+  where
+    t : Requests
+    t = s .requests
+
+    go : PlaceAfter s e j → ⊥
+    go (inl x) = false≢true (sym x ∙ v)
+    go (inr (inl x)) =
+        let w : placeAt t j .live ≡ true = sym (ap (λ (p : Place). p .live) x) ∙ v in
+        let same : i ≡ j = differ-when (t .places) u i j (live-within (t .places) i a) (live-within (t .places) j w) a w (sym k ∙ ap (λ (p : Place). p .request .id) x) in
+        false≢true (sym b ∙ ap (λ (m : ℕ). placeAt (after s e .requests) m .live) same ∙ v)
+    go (inr (inr x)) =
+        let id : placeAt t i .request .id ≡ e .request .id = sym k ∙ ap (λ (p : Place). p .request .id) (x .2) in
+        let free : isSome (lowest t (Id (e .request .id))) ≡ false = fails (traitsOf (e .class) .request) _ (none-held s e (x .1) .unused) (x .0) in
+        let met : isSome (lowest t (Id (e .request .id))) ≡ true = at-some t (Id (e .request .id)) i (live-within (t .places) i a) (and-whole (placeAt t i .live) _ a (eq-eqb (placeAt t i .request .id) (e .request .id) id)) in
+        false≢true (sym free ∙ met)
 
 -- ---- a late reply
 

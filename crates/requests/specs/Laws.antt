@@ -123,10 +123,10 @@ differ-by m at each d = when-differ m differ
         d i j h k (sym (λ z. a z .live) ∙ e) (sym (λ z. b z .live) ∙ f) (sym (λ z. a z .request .id) ∙ q ∙ (λ z. b z .request .id))
 
 -- a live place stands in the list
-within : (l : List Place) (i : ℕ) → getD l i freePlace .live ≡ true → i < length l
-within [] i e = absurd (false≢true e)
-within (p ∷ ps) zero e = omega arith
-within (p ∷ ps) (suc i) e = let h : i < length ps = within ps i e in omega arith
+pub live-within : (l : List Place) (i : ℕ) → getD l i freePlace .live ≡ true → i < length l
+live-within [] i e = absurd (false≢true e)
+live-within (p ∷ ps) zero e = omega arith
+live-within (p ∷ ps) (suc i) e = let h : i < length ps = live-within ps i e in omega arith
 
 -- each place of the new list is free or the old one
 differ-kept : (l m : List Place) (free : ℕ → Bool)
@@ -139,7 +139,7 @@ differ-kept l m free each d = differ-by m (λ j. now (free j) j) each (λ i j h 
     apart : (i j : ℕ) (a b : Bool) → now a i .live ≡ true → now b j .live ≡ true → now a i .request .id ≡ now b j .request .id → i ≡ j
     apart i j true b e f q = absurd (false≢true e)
     apart i j false true e f q = absurd (false≢true f)
-    apart i j false false e f q = differ-when l d i j (within l i e) (within l j f) e f q
+    apart i j false false e f q = differ-when l d i j (live-within l i e) (live-within l j f) e f q
 
 pub fresh-differ : idsDiffer (freshRequests .places) ≡ true
 unfolding freshRequests idsDiffer
