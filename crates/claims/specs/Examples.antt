@@ -25,12 +25,9 @@ use Rattle.session.specs.declared.Session.{Session}
 use Rattle.session.specs.declared.Judged.{Judged}
 use Rattle.session.specs.Session.{freshSession, linkOf}
 use Rattle.session.specs.Step.{nextFor, judged}
+use Rattle.claims.specs.Runs.{Sent}
 
 -- ---- packets
-
-pub record Sent : Type 0 where
-  pub from : Side
-  pub packet : Content
 
 abbrev carrying : Side → ℕ → ℕ → List Value → List ℕ → Sent
 carrying from kind id fs rest = record { from = from; packet = record { kind = kind; id = id; fields = fs; rest = rest } }

@@ -1,7 +1,8 @@
--- A late reply is never handed to another request. What is shown of a packet that came out of the wire checks:
--- it passes exactly when it is allowed (`allowed-exactly`); a reply passes exactly when a live request matches it and is not shorter, or
--- it is unsolicited (`reply-passes`); it is then handed to that one request, whose place it frees (`reply-consumes`); after that no
--- request with its id waits (`answered-for-good`); and where none does, it is refused and frees nothing (`late`).
+-- A request and its reply, of packets that came out of the wire checks:
+-- a packet passes exactly when it is allowed (`allowed-exactly`); a request that passes takes the lowest free place (`request-keeps`); a
+-- reply passes exactly when a live request matches it and asked for at least its length, or it is unsolicited (`reply-passes`); it
+-- consumes that one request (`reply-consumes`), after which none with its id waits (`answered-absent`); where none waits, it is refused
+-- and frees nothing (`late`).
 -- Assumes nothing.
 use Prim.Native.Nat.{ℕ, _≤_, _<_}
 use mathlib.Core.Bool.{Bool, true, false, cond, not, _&&_, false≢true, true≢false}
@@ -16,7 +17,7 @@ use borrow.Table.Steps.{cases}
 use Rattle.endpoint.specs.declared.Endpoint.{Endpoint}
 use Rattle.header.specs.declared.Side.{Side}
 use Rattle.header.specs.declared.Side.the-variants.{Guest, Host}
-use Rattle.kinds.specs.Content.{Content}
+use Rattle.kinds.specs.Content.{Value, Content}
 use Rattle.kinds.specs.Number.{isGuest, wireNumber}
 use Rattle.device.specs.declared.Rows.{Rows}
 use Rattle.device.specs.declared.Scope.{Scope}
@@ -25,7 +26,7 @@ use Rattle.device.specs.Device.{touched}
 use Rattle.requests.specs.declared.Request.{Request}
 use Rattle.requests.specs.declared.Query.{Query}
 use Rattle.requests.specs.declared.Query.the-variants.{Free, Id, Settling, Answered}
-use Rattle.requests.specs.Requests.{freePlace, isData, answers, lowest, placeAt, ends, idsDiffer}
+use Rattle.requests.specs.Requests.{freePlace, taken, isData, answers, lowest, placeAt, ends, idsDiffer}
 use Rattle.requests.specs.Laws.{differ-when}
 use Rattle.events.specs.declared.Event.{Event}
 use Rattle.events.specs.Meaning.{meanings, lookUp}
@@ -35,12 +36,23 @@ use Rattle.checks.specs.Checks.{traitsOf, isSome, mistypedBy, isOpen, matchIn, 
 use Rattle.checks.specs.declared.Match.{Match}
 use Rattle.session.specs.declared.Session.{Session}
 use Rattle.session.specs.Session.{linkOf}
-use Rattle.session.specs.Step.{scopeOf, judged}
+use Rattle.session.specs.Step.{scopeOf, nextFor, judged}
 use Rattle.scan.specs.Logic.{and-parts, and-whole, failing, or-none, false-not}
-use Rattle.claims.specs.Allowed.{among, oneOf, isReply, answersKind, carriesTarget, inwardOf, replyTarget, countOf, Answers, Unsolicited, Allowed}
+use Rattle.claims.specs.Allowed.{among, oneOf, isRequest, isReply, answersKind, carriesTarget, inwardOf, replyTarget, countOf, requestOf, Answers, Unsolicited, Allowed}
 use Rattle.claims.specs.Agree.{Facts, factsOf, factsBy, agrees}
 use Rattle.claims.specs.Passes.{NoneHolds, holds-none, passes, answers-to, match-is, alone-to, reply-from, unsolicited-is}
-use Rattle.claims.specs.Steps.{after, number-is, clean, from-host, reply-does, none-held, Freed, reply-frees, unmatched-keeps, NoLive, answered-once, Late, late-reply}
+use Rattle.claims.specs.Steps.{after, number-is, request-takes, clean, from-host, reply-does, none-held, Freed, reply-frees, unmatched-keeps, NoLive, answered-once, Late, late-reply}
+
+-- ---- what is said of a request
+
+-- it takes the lowest free place, and no other place changes
+pub record Takes (s : Session) (p : Content) (next : Session) : Type 0 where
+  pub place : ℕ
+  pub within : place < length (s .requests .places)
+  pub free : placeAt (s .requests) place .live ≡ false
+  pub lower : (j : ℕ) → j < place → placeAt (s .requests) j .live ≡ true
+  pub holds : placeAt (next .requests) place ≡ taken (requestOf p)
+  pub others : (j : ℕ) → (j ≡ place → ⊥) → placeAt (next .requests) j ≡ placeAt (s .requests) j
 
 -- ---- what is said of a reply
 
@@ -117,6 +129,13 @@ module _ (s : Session) (from : Side) (p : Content) (w : wireNumber (linkOf from 
       let c = clean (linkOf from s) p w in
       let i = passes s from p (c .kind) (c .found) (c .sender) u in
       (λ z. i .0 (sym (number-is s e) ∙ z), λ a. number-is s e ∙ i .1 a)
+
+  pub request-keeps : isRequest from (p .kind) ≡ true → judged s e .number ≡ 0 → Takes s p (judged s e .session)
+  request-keeps h z =
+      let r : traitsOf (e .class) .request ≡ true = (λ i. agreed i .request) ∙ h in
+      let k : e .request ≡ requestOf p = sym (rw r) ∙ (λ i. agreed i .kept) ∙ rw h in
+      let t = request-takes s e r z in
+      record { place = t .place; within = t .within; free = t .free; lower = t .lower; holds = t .holds ∙ ap taken k; others = t .others }
 
   module _ (r : isReply from (p .kind) (inwardOf p) ≡ true) where
     replying : traitsOf (e .class) .reply ≡ true
@@ -234,9 +253,9 @@ module _ (s : Session) (from : Side) (p : Content) (w : wireNumber (linkOf from 
         go (some i) x = inl (i, handed i (reply-frees s e i (placeAt (s .requests) i .request) z (match-at (some i) x)))
 
     -- once it has been handed to a request, no request with its id waits
-    pub answered-for-good : idsDiffer (s .requests .places) ≡ true → judged s e .number ≡ 0 → (Unsolicited (s .requests) p → ⊥) → NoLive (judged s e .session .requests) (p .id)
+    pub answered-absent : idsDiffer (s .requests .places) ≡ true → judged s e .number ≡ 0 → (Unsolicited (s .requests) p → ⊥) → NoLive (judged s e .session .requests) (p .id)
     unfolding eventOf
-    answered-for-good u z n = go (lowest (s .requests) query) refl
+    answered-absent u z n = go (lowest (s .requests) query) refl
       where
         go : (o : Option ℕ) → lowest (s .requests) query ≡ o → NoLive (judged s e .session .requests) (p .id)
         go none x = absurd (n (alone-to s from p agreed r x (sym (ap (noSuchRequest e) (match-at none x)) ∙ none-held s e z .matched)))
@@ -263,3 +282,10 @@ module _ (s : Session) (from : Side) (p : Content) (w : wireNumber (linkOf from 
               status = eqb-true (field "status" p) 4 (v .1);
               unmatched = λ i a. n i (a .place) (a .live) (a .id);
             }
+
+-- ---- "Cancel passes with any id and changes nothing."
+
+pub cancel-passes : (s : Session) (id : ℕ) (fields : List Value) (rest : List ℕ) → s .device .present ≡ true
+    → judged s (eventOf Guest (record { kind = 21; id = id; fields = fields; rest = rest })) ≡ record { session = s; number = 0 }
+unfolding judged numberFor nextFor matchOf eventOf meaningOf meanings
+cancel-passes s id fields rest h = rw h

@@ -4,5 +4,6 @@ pub mod Passes
 pub mod Steps
 pub mod Kept
 pub mod Exchange
+pub mod Runs
 pub mod Moves
 pub mod Examples
