@@ -356,19 +356,6 @@ module _ (s : Session) (e : Event) (i : ℕ) (q : Request) (z : judged s e .numb
         others = λ j n. place-after j (placeAt (s .requests) j) (place-other (s .requests) i j freePlace (λ k. n (sym k)));
       }
 
-  -- it frees no other place, unless it says 0 to a set configuration (6) or a set alt (9)
-  pub no-other-freed : (e .status ≡ 0 → ⊥) ⊎ ((q .kind ≡ 6 → ⊥) × (q .kind ≡ 9 → ⊥)) → (j : ℕ) → (j ≡ i → ⊥) → placeAt (after s e .requests) j ≡ placeAt (s .requests) j
-  no-other-freed h j n =
-      ap (λ (x : Requests). placeAt x j) (replied ∙ ap (released u (s .device .rows)) (nowhere h) ∙ released-nowhere u (s .device .rows))
-      ∙ place-other (s .requests) i j freePlace (λ k. n (sym k))
-    where
-      u : Requests
-      u = withPlace (s .requests) i freePlace
-
-      nowhere : (e .status ≡ 0 → ⊥) ⊎ ((q .kind ≡ 6 → ⊥) × (q .kind ≡ 9 → ⊥)) → scopeOf e (Matched i q) ≡ Nowhere
-      nowhere (inl a) = rw (ne-eqb (e .status) 0 a)
-      nowhere (inr a) = rw (ne-eqb (q .kind) 6 (a .0), ne-eqb (q .kind) 9 (a .1)) (cases (eqb (e .status) 0) (λ b. rw b) (λ b. rw b))
-
   -- where the ids of live requests differ, none with its id is live after it
   pub answered-once : idsDiffer (s .requests .places) ≡ true → NoLive (after s e .requests) (e .request .id)
   answered-once d j l v n = cases (eqb j i) here there
@@ -392,10 +379,6 @@ module _ (s : Session) (e : Event) (i : ℕ) (q : Request) (z : judged s e .numb
 
       there : eqb j i ≡ false → ⊥
       there k = eqb-false j i k (sym (other (ends (s .device .rows) (scopeOf e (Matched i q)) (placeAt t j)) (reply-frees .others j (eqb-false j i k))))
-
-  -- so the same reply matches nothing when it comes again
-  pub again-unmatched : idsDiffer (s .requests .places) ≡ true → matchOf (after s e .requests) e ≡ Unmatched
-  again-unmatched d = no-match (after s e .requests) e (answered-once d)
 
 -- a reply that matches nothing leaves the requests as they were
 pub unmatched-keeps : (s : Session) (e : Event) → traitsOf (e .class) .reply ≡ true → matchOf (s .requests) e ≡ Unmatched → after s e .requests ≡ s .requests

@@ -45,7 +45,8 @@ closedRow k = record { kind = k; interface = 0; streaming = false }
 unfoldable pub startRows : Rows
 startRows = record { rows = set (set (replicate 32 (closedRow invalid)) 0 (closedRow control)) 16 (closedRow control) }
 
--- the row of an endpoint; a byte that is no address has an invalid one
+-- the row of an endpoint; a byte that is no address has an invalid one. There are 32 rows, and a row's number is below 32
+-- (`endpoint-back`), so the value for an index past the end is never reached, here and below.
 abbrev pub rowIn : List RowState → RowOf → RowState
 rowIn rows (At r) = getD rows (r .0) (closedRow 0)
 rowIn rows Malformed = closedRow invalid

@@ -48,10 +48,6 @@ shown p f (l ∷ ls) = cond (p l) (f l ∷ shown p f ls) (shown p f ls)
 abbrev classed : List Class → Line → Bool
 classed cs l = among cs (l .meaning .class)
 
--- the kinds of the lines of these classes
-abbrev kindsOf : List Class → List ℕ
-kindsOf cs = shown (classed cs) (λ (l : Line). l .kind) meanings
-
 abbrev requests : List Class
 requests = StartRequest ∷ PlainRequest ∷ []
 
@@ -61,30 +57,6 @@ replies = StreamStatus ∷ PlainReply ∷ []
 -- "Guest kinds 6, 7, 9, 10, 12, 13, 15, 16, 18, 19, 25, 26, 100, 101, 103 take the lowest free place"
 abbrev requestKinds : List ℕ
 requestKinds = 6 ∷ 7 ∷ 9 ∷ 10 ∷ 12 ∷ 13 ∷ 15 ∷ 16 ∷ 18 ∷ 19 ∷ 25 ∷ 26 ∷ 100 ∷ 101 ∷ 103 ∷ []
-
--- "All kinds but 0, 1, 4, 5, 22, 23, 24 get 25 without a device."
-pub no-device-kinds : kindsOf (Hello ∷ Connect ∷ Interfaces ∷ Endpoints ∷ Filter ∷ Ack ∷ []) ≡ (0 ∷ 1 ∷ 4 ∷ 5 ∷ 22 ∷ 23 ∷ 24 ∷ [])
-unfolding meanings
-no-device-kinds = refl
-
-pub request-kinds : kindsOf requests ≡ requestKinds
-unfolding meanings
-request-kinds = refl
-
--- "a passed start opens": 12 start iso, 15 start interrupt, 25 start bulk receiving
-pub start-kinds : kindsOf (StartRequest ∷ []) ≡ (12 ∷ 15 ∷ 25 ∷ [])
-unfolding meanings
-start-kinds = refl
-
--- "Kinds 14, 17, 27 with id 0 and status 4 that match nothing pass as unsolicited."
-pub status-kinds : kindsOf (StreamStatus ∷ []) ≡ (14 ∷ 17 ∷ 27 ∷ [])
-unfolding meanings
-status-kinds = refl
-
--- "30: kind 102, host 103 IN and 104 on a closed stream."
-pub stream-kinds : kindsOf (StreamData ∷ []) ≡ (102 ∷ 103 ∷ 104 ∷ [])
-unfolding meanings
-stream-kinds = refl
 
 -- ---- what a line answers and wants
 

@@ -122,6 +122,7 @@ admits host from inward = not (isGuest from)
 admits host-in from inward = not (isGuest from) && inward
 admits host-out from inward = not (isGuest from) && not inward
 
+-- every kind has a line for whoever may send it (`one-line` in Examples), so the empty list is never reached
 abbrev pub lookUp : List Line → Side → ℕ → Bool → Meaning
 lookUp [] from kind inward = plain Cancel
 lookUp (l ∷ ls) from kind inward = cond (eqb kind (l .kind) && admits (l .who) from inward) (l .meaning) (lookUp ls from kind inward)

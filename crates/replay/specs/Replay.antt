@@ -1,4 +1,6 @@
 -- A packet's bytes judged whole, wire checks and session checks, and a script of packets judged one after the other.
+-- This is not the gate: nothing is held, nothing stops, and there is no 1, 2 or 3. A packet that the wire checks refuse leaves the session,
+-- and the next one is judged.
 -- Assumes nothing: these are definitions.
 use Prim.Native.Nat.{ℕ, zero, suc, _+_}
 use mathlib.Core.Bool.{Bool, true, false, cond}

@@ -1,4 +1,5 @@
-// Packets judged whole, one after the other, from a fresh session: for hosts in other languages that test the session.
+// Packets judged whole, one after the other, from a fresh session: for hosts in other languages that test the session. It is not the
+// gate: it holds nothing and never stops.
 ghost use mathlib.Core.Path.{_≡_};
 ghost use Rattle.replay.specs.Replay.{verdictOf, senderOf, Replays};
 use decoder::Reading;

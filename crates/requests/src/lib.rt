@@ -1,4 +1,4 @@
-// The table of 96 places for requests that wait for their reply, by value. Every search in it goes through one function.
+// The table of 96 places for requests that wait for their reply, by value. Every search for a packet goes through `find`.
 ghost use mathlib.Core.Path.{_≡_};
 ghost use Prim.Native.Nat.{_≤_, _<_};
 ghost use lib.ListN.{drop};
