@@ -8,13 +8,12 @@ use mathlib.Core.Path.{_≡_, refl, sym, ap, subst, _∙_}
 use lib.Dec.{eqb}
 use borrow.Author.Tests.{eqb-true}
 use borrow.Table.Steps.{cases}
-use Rattle.endpoint.specs.Endpoint.{isIn}
 use Rattle.header.specs.declared.Side.{Side}
 use Rattle.header.specs.declared.Side.the-variants.{Guest, Host}
 use Rattle.kinds.specs.Table.{G, H, Kind, kinds}
 use Rattle.kinds.specs.Content.{Value, Content, find}
 use Rattle.kinds.specs.Codec.{layout}
-use Rattle.kinds.specs.Number.{isGuest, sends}
+use Rattle.kinds.specs.Number.{sends}
 use Rattle.device.specs.declared.Device.{Device}
 use Rattle.device.specs.Device.{bulk}
 use Rattle.requests.specs.declared.Request.{Request}
@@ -25,7 +24,7 @@ use Rattle.events.specs.declared.Event.{Event}
 use Rattle.events.specs.Meaning.{meanings}
 use Rattle.events.specs.Event.{field, meaningOf, eventOf}
 use Rattle.checks.specs.Checks.{traitsOf, outOfOrder, isBegun, isDone}
-use Rattle.claims.specs.Allowed.{among, isRequest, isReply, answersKind, carriesTarget, wants, onStream, endpointOf, inwardOf, replyTarget, countOf, requestOf}
+use Rattle.claims.specs.Allowed.{among, isRequest, isReply, answersKind, carriesTarget, wants, onStream, endpointOf, inwardOf, replyTarget, requestOf}
 
 -- what the checks go by, of an event or of a packet
 pub record Facts : Type 0 where
@@ -90,92 +89,93 @@ factsBy from p =
       kept = cond (isRequest from (p .kind)) (requestOf p) noRequest;
     }
 
--- ---- for each kind of the table, from whoever may send it
+-- ---- what holds for each kind of the table, from whoever may send it
 
-abbrev packetOf : ℕ → ℕ → List Value → List ℕ → Content
+abbrev pub packetOf : ℕ → ℕ → List Value → List ℕ → Content
 packetOf n id vs rest = record { kind = n; id = id; fields = vs; rest = rest }
 
--- the two agree for packets of a kind from one side
+infixr 40 _also_
+pub _also_ : {A B : Type 0} → A → B → A × B
+a also b = (a, b)
+
+module _ (P : Side → ℕ → Type 0) where
+  abbrev pub HoldsFor : Kind → Type 0
+  HoldsFor k = (from : Side) → sends (k .sender) from ≡ true → P from (k .number)
+
+  abbrev pub Every : List Kind → Type 0
+  Every [] = Unit {0}
+  Every (k ∷ ks) = HoldsFor k × Every ks
+
+  pub by-guest : (n : ℕ) → P Guest n → (from : Side) → sends G from ≡ true → P from n
+  by-guest n a Guest h = a
+  by-guest n a Host h = absurd (false≢true h)
+
+  pub by-host : (n : ℕ) → P Host n → (from : Side) → sends H from ≡ true → P from n
+  by-host n a Guest h = absurd (false≢true h)
+  by-host n a Host h = a
+
+  pub by-both : (n : ℕ) → P Guest n → P Host n → (from : Side) → true ≡ true → P from n
+  by-both n a b Guest h = a
+  by-both n a b Host h = b
+
+  -- what holds for every kind of a list holds for the one that is found by its number
+  pub found-kind : (ks : List Kind) (n : ℕ) (k : Kind) → find n ks ≡ some k → Every ks → (from : Side) → sends (k .sender) from ≡ true → P from n
+  found-kind [] n k e a = absurd (Option·none-ne-some k e)
+  found-kind (x ∷ ks) n k e a = cases (eqb n (x .number)) here (λ t. found-kind ks n k (sym (rw t) ∙ e) (a .1))
+    where
+      here : eqb n (x .number) ≡ true → (from : Side) → sends (k .sender) from ≡ true → P from n
+      here t from h =
+          let q : x ≡ k = Option·some-injective x k (sym (rw t) ∙ e) in
+          subst (λ (m : ℕ). P from m) (sym (eqb-true n (x .number) t)) (a .0 from (ap (λ (y : Kind). sends (y .sender) from) q ∙ h))
+
+-- ---- the two agree
+
+-- for packets of a kind from one side
 abbrev Agree : Side → ℕ → Type 0
 Agree from n = (id : ℕ) (vs : List Value) (rest : List ℕ) → factsOf (eventOf from (packetOf n id vs rest)) ≡ factsBy from (packetOf n id vs rest)
-
-abbrev AgreeFor : Kind → Type 0
-AgreeFor k = (from : Side) → sends (k .sender) from ≡ true → Agree from (k .number)
-
-abbrev Every : List Kind → Type 0
-Every [] = Unit {0}
-Every (k ∷ ks) = AgreeFor k × Every ks
-
-by-guest : (n : ℕ) → Agree Guest n → (from : Side) → sends G from ≡ true → Agree from n
-by-guest n a Guest h = a
-by-guest n a Host h = absurd (false≢true h)
-
-by-host : (n : ℕ) → Agree Host n → (from : Side) → sends H from ≡ true → Agree from n
-by-host n a Guest h = absurd (false≢true h)
-by-host n a Host h = a
-
-by-both : (n : ℕ) → Agree Guest n → Agree Host n → (from : Side) → true ≡ true → Agree from n
-by-both n a b Guest h = a
-by-both n a b Host h = b
-
-infixr 40 _also_
-_also_ : {A B : Type 0} → A → B → A × B
-a also b = (a, b)
 
 interrupt-agrees : Agree Host 103
 unfolding meaningOf eventOf meanings layout kinds
 interrupt-agrees id vs rest = cases (inwardOf (packetOf 103 id vs rest)) (λ t. rw t) (λ t. rw t)
 
-every-kind : Every kinds
+every-kind : Every Agree kinds
 unfolding meaningOf eventOf meanings layout kinds
 every-kind =
-    by-both 0 (λ id vs rest. refl) (λ id vs rest. refl)
-    also by-host 1 (λ id vs rest. refl)
-    also by-host 2 (λ id vs rest. refl)
-    also by-guest 3 (λ id vs rest. refl)
-    also by-host 4 (λ id vs rest. refl)
-    also by-host 5 (λ id vs rest. refl)
-    also by-guest 6 (λ id vs rest. refl)
-    also by-guest 7 (λ id vs rest. refl)
-    also by-host 8 (λ id vs rest. refl)
-    also by-guest 9 (λ id vs rest. refl)
-    also by-guest 10 (λ id vs rest. refl)
-    also by-host 11 (λ id vs rest. refl)
-    also by-guest 12 (λ id vs rest. refl)
-    also by-guest 13 (λ id vs rest. refl)
-    also by-host 14 (λ id vs rest. refl)
-    also by-guest 15 (λ id vs rest. refl)
-    also by-guest 16 (λ id vs rest. refl)
-    also by-host 17 (λ id vs rest. refl)
-    also by-guest 18 (λ id vs rest. refl)
-    also by-guest 19 (λ id vs rest. refl)
-    also by-host 20 (λ id vs rest. refl)
-    also by-guest 21 (λ id vs rest. refl)
-    also by-guest 22 (λ id vs rest. refl)
-    also by-both 23 (λ id vs rest. refl) (λ id vs rest. refl)
-    also by-guest 24 (λ id vs rest. refl)
-    also by-guest 25 (λ id vs rest. refl)
-    also by-guest 26 (λ id vs rest. refl)
-    also by-host 27 (λ id vs rest. refl)
-    also by-both 100 (λ id vs rest. refl) (λ id vs rest. refl)
-    also by-both 101 (λ id vs rest. refl) (λ id vs rest. refl)
-    also by-both 102 (λ id vs rest. refl) (λ id vs rest. refl)
-    also by-both 103 (λ id vs rest. refl) interrupt-agrees
-    also by-host 104 (λ id vs rest. refl)
+    by-both Agree 0 (λ id vs rest. refl) (λ id vs rest. refl)
+    also by-host Agree 1 (λ id vs rest. refl)
+    also by-host Agree 2 (λ id vs rest. refl)
+    also by-guest Agree 3 (λ id vs rest. refl)
+    also by-host Agree 4 (λ id vs rest. refl)
+    also by-host Agree 5 (λ id vs rest. refl)
+    also by-guest Agree 6 (λ id vs rest. refl)
+    also by-guest Agree 7 (λ id vs rest. refl)
+    also by-host Agree 8 (λ id vs rest. refl)
+    also by-guest Agree 9 (λ id vs rest. refl)
+    also by-guest Agree 10 (λ id vs rest. refl)
+    also by-host Agree 11 (λ id vs rest. refl)
+    also by-guest Agree 12 (λ id vs rest. refl)
+    also by-guest Agree 13 (λ id vs rest. refl)
+    also by-host Agree 14 (λ id vs rest. refl)
+    also by-guest Agree 15 (λ id vs rest. refl)
+    also by-guest Agree 16 (λ id vs rest. refl)
+    also by-host Agree 17 (λ id vs rest. refl)
+    also by-guest Agree 18 (λ id vs rest. refl)
+    also by-guest Agree 19 (λ id vs rest. refl)
+    also by-host Agree 20 (λ id vs rest. refl)
+    also by-guest Agree 21 (λ id vs rest. refl)
+    also by-guest Agree 22 (λ id vs rest. refl)
+    also by-both Agree 23 (λ id vs rest. refl) (λ id vs rest. refl)
+    also by-guest Agree 24 (λ id vs rest. refl)
+    also by-guest Agree 25 (λ id vs rest. refl)
+    also by-guest Agree 26 (λ id vs rest. refl)
+    also by-host Agree 27 (λ id vs rest. refl)
+    also by-both Agree 100 (λ id vs rest. refl) (λ id vs rest. refl)
+    also by-both Agree 101 (λ id vs rest. refl) (λ id vs rest. refl)
+    also by-both Agree 102 (λ id vs rest. refl) (λ id vs rest. refl)
+    also by-both Agree 103 (λ id vs rest. refl) interrupt-agrees
+    also by-host Agree 104 (λ id vs rest. refl)
     also tt
 
--- a kind that is found is the one with that number, and the two agree for it
-found-kind : (ks : List Kind) (n : ℕ) (k : Kind) → find n ks ≡ some k → Every ks → (n ≡ k .number) × AgreeFor k
-found-kind [] n k e a = absurd (Option·none-ne-some k e)
-found-kind (x ∷ ks) n k e a = cases (eqb n (x .number)) here (λ t. found-kind ks n k (sym (rw t) ∙ e) (a .1))
-  where
-    here : eqb n (x .number) ≡ true → (n ≡ k .number) × AgreeFor k
-    here t =
-        let q : x ≡ k = Option·some-injective x k (sym (rw t) ∙ e) in
-        (eqb-true n (x .number) t ∙ ap (λ (y : Kind). y .number) q, subst AgreeFor q (a .0))
-
--- the two agree for every packet of a known kind from an end that may send it
+-- for every packet of a known kind from an end that may send it
 pub agrees : (from : Side) (p : Content) (k : Kind) → find (p .kind) kinds ≡ some k → sends (k .sender) from ≡ true → factsOf (eventOf from p) ≡ factsBy from p
-agrees from p k e h =
-    let f = found-kind kinds (p .kind) k e every-kind in
-    subst (λ (n : ℕ). factsOf (eventOf from (packetOf n (p .id) (p .fields) (p .rest))) ≡ factsBy from (packetOf n (p .id) (p .fields) (p .rest))) (sym (f .0)) (f .1 from h (p .id) (p .fields) (p .rest))
+agrees from p k e h = found-kind Agree kinds (p .kind) k e every-kind from h (p .id) (p .fields) (p .rest)
