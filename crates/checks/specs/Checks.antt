@@ -175,7 +175,7 @@ pub record Check : Type 0 where
   pub holds : Bool
 
 infix 70 _when_
-abbrev _when_ : ℕ → Bool → Check
+abbrev pub _when_ : ℕ → Bool → Check
 n when b = record { number = n; holds = b }
 
 abbrev pub firstOf : List Check → ℕ

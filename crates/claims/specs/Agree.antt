@@ -17,6 +17,9 @@ use Rattle.kinds.specs.Number.{sends}
 use Rattle.device.specs.declared.Device.{Device}
 use Rattle.device.specs.Device.{bulk}
 use Rattle.requests.specs.declared.Request.{Request}
+use Rattle.requests.specs.declared.Place.{Place}
+use Rattle.requests.specs.declared.Requests.{Requests}
+use Rattle.scan.specs.Scan.{firstAt}
 use Rattle.requests.specs.Requests.{noRequest, answers}
 use Rattle.events.specs.declared.Typed.{Typed}
 use Rattle.events.specs.declared.Typed.the-variants.{Untyped, OfEndpoint, OfMask}
@@ -72,6 +75,10 @@ typedBy from p = cond (among (18 ∷ 19 ∷ []) (p .kind)) (OfMask (field "mask"
 
 abbrev pub answersBy : Content → Request → Bool
 answersBy p q = eqb (q .id) (p .id) && answersKind (p .kind) (q .kind) && (not (carriesTarget (p .kind)) || eqb (q .target) (replyTarget p))
+
+-- the lowest place whose live request the reply answers
+abbrev pub answeredAt : Requests → Content → Option ℕ
+answeredAt t p = firstAt (λ (q : Place). q .live && answersBy p (q .request)) 0 (t .places)
 
 abbrev pub factsBy : Side → Content → Facts
 factsBy from p =

@@ -4,6 +4,7 @@ pub mod Passes
 pub mod Steps
 pub mod Kept
 pub mod Exchange
+pub mod Number
 pub mod Runs
 pub mod Moves
 pub mod Examples

@@ -50,7 +50,7 @@ use Rattle.session.specs.declared.Session.{Session}
 use Rattle.session.specs.Session.{linkOf, isShared}
 use Rattle.session.specs.Step.{keptHello, opens, scopeOf, nextFor, judged}
 use Rattle.claims.specs.Allowed.{among, answersKind, endpointOf, inwardOf}
-use Rattle.claims.specs.Agree.{answersBy, packetOf, _also_, Every, by-guest, by-host, by-both, found-kind}
+use Rattle.claims.specs.Agree.{answersBy, packetOf, _also_, Every, by-guest, by-host, by-both, found-kind, answeredAt}
 use Rattle.claims.specs.Steps.{passed, clean}
 use Rattle.claims.specs.Kept.{Sized}
 
@@ -77,10 +77,7 @@ isRow Malformed r = false
 abbrev pub names : Content → ℕ → Bool
 names p r = isRow (rowOf (endpointOf p)) r
 
--- the place of the request that a reply answers, and its kind, 0 where it answers none
-abbrev pub answeredAt : Requests → Content → Option ℕ
-answeredAt t p = firstAt (λ (q : Place). q .live && answersBy p (q .request)) 0 (t .places)
-
+-- the kind of the request that a reply answers, 0 where it answers none
 abbrev pub kindIn : Requests → Option ℕ → ℕ
 kindIn t none = 0
 kindIn t (some i) = placeAt t i .request .kind

@@ -219,7 +219,7 @@ module _ (s : Session) (from : Side) (p : Content) (a : factsOf (eventOf from p)
   ack-from f = failing (traitsOf (e .class) .introduces) (d .owed) (λ h. f (sym (λ i. a i .introduces) ∙ h))
 
   -- 26
-  order-is : outOfOrder d (e .class) ≡ disordered (p .kind) d
+  pub order-is : outOfOrder d (e .class) ≡ disordered (p .kind) d
   order-is i = a i .order d
 
   order-at : (n : ℕ) → outOfOrder d (e .class) ≡ false → p .kind ≡ n → disordered n d ≡ false
@@ -254,7 +254,7 @@ module _ (s : Session) (from : Side) (p : Content) (a : factsOf (eventOf from p)
       third x y z = rw (x, y, z) (false-not (d .owed) (h (eqb-true (p .kind) 24 z)))
 
   -- 28
-  types-are : wrongType (d .rows) e ≡ mistypedBy (d .rows) (typedBy from p)
+  pub types-are : wrongType (d .rows) e ≡ mistypedBy (d .rows) (typedBy from p)
   types-are = typed-is (d .rows) (traitsOf (e .class) .typed) (e .typed) ∙ (λ i. mistypedBy (d .rows) (a i .typed))
 
   type-to : wrongType (d .rows) e ≡ false → (k : ℕ) → wants from (p .kind) (inwardOf p) ≡ some k → stateAt (d .rows) (endpointOf p) .kind ≡ k
@@ -302,11 +302,11 @@ module _ (s : Session) (from : Side) (p : Content) (a : factsOf (eventOf from p)
           when-none t Settling (λ i n. failing (placeAt t i .live) _ (λ v. f (q .0) (leb-true 100 (p .kind) (q .1)) (leb-true (p .kind) 103 (r .1)) i n v))
 
   -- 30
-  stream-is : streamClosed (d .rows) e ≡ (onStream from (p .kind) (inwardOf p) && not (isOpen (d .rows) (cond (onStream from (p .kind) (inwardOf p)) (rowBy (wants from (p .kind) (inwardOf p)) p) Untyped)))
+  pub stream-is : streamClosed (d .rows) e ≡ (onStream from (p .kind) (inwardOf p) && not (isOpen (d .rows) (cond (onStream from (p .kind) (inwardOf p)) (rowBy (wants from (p .kind) (inwardOf p)) p) Untyped)))
   stream-is = open-is (d .rows) (traitsOf (e .class) .streamed) (e .typed) ∙ (λ i. a i .streamed && not (isOpen (d .rows) (a i .stream)))
 
   -- of what comes on a stream, the stream is that of its endpoint's row
-  stream-at : onStream from (p .kind) (inwardOf p) ≡ true → isOpen (d .rows) (cond (onStream from (p .kind) (inwardOf p)) (rowBy (wants from (p .kind) (inwardOf p)) p) Untyped) ≡ stateAt (d .rows) (endpointOf p) .streaming
+  pub stream-at : onStream from (p .kind) (inwardOf p) ≡ true → isOpen (d .rows) (cond (onStream from (p .kind) (inwardOf p)) (rowBy (wants from (p .kind) (inwardOf p)) p) Untyped) ≡ stateAt (d .rows) (endpointOf p) .streaming
   stream-at h = let w = stream-wants from (p .kind) (inwardOf p) h in rw (h, w .1)
 
   stream-to : streamClosed (d .rows) e ≡ false → onStream from (p .kind) (inwardOf p) ≡ true → stateAt (d .rows) (endpointOf p) .streaming ≡ true
@@ -350,7 +350,7 @@ module _ (s : Session) (from : Side) (p : Content) (a : factsOf (eventOf from p)
     replies = (λ i. a i .reply) ∙ r
 
     -- the requests that the reply answers are those that the lists name
-    answers-is : (q : Request) → answers (e .request) (e .answers) q ≡ answersBy p q
+    pub answers-is : (q : Request) → answers (e .request) (e .answers) q ≡ answersBy p q
     answers-is q = sym (rw replies) ∙ (λ i. a i .answers q) ∙ rw r
 
     pub answers-to : (i : ℕ) → i < length (t .places) → meets query (placeAt t i) ≡ true → Answers t p i

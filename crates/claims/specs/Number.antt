@@ -1,0 +1,137 @@
+-- The number of a packet, by kind numbers: the first of document 01's sentences that refuses it, in the order of their numbers but for 27
+-- before 26. `number-by` shows that the judge gives this number.
+-- Assumes nothing.
+use Prim.Native.Nat.{ℕ}
+use mathlib.Core.Bool.{Bool, true, false, cond, not, _&&_, _||_}
+use mathlib.Core.List.{List, [], _∷_}
+use mathlib.Core.Option.{Option, none, some}
+use mathlib.Core.Path.{_≡_, refl, sym, ap, _∙_}
+use lib.Dec.{eqb, leb, ltb}
+use borrow.Table.Steps.{cases}
+use Rattle.header.specs.declared.Side.{Side}
+use Rattle.kinds.specs.Content.{Content}
+use Rattle.kinds.specs.Number.{isGuest, wireNumber}
+use Rattle.device.specs.Device.{stateAt}
+use Rattle.requests.specs.declared.Requests.{Requests}
+use Rattle.requests.specs.declared.Request.{Request}
+use Rattle.requests.specs.declared.Query.{Query}
+use Rattle.requests.specs.declared.Query.the-variants.{Free, Id, Settling, Answered}
+use Rattle.requests.specs.declared.Place.{Place}
+use Rattle.requests.specs.Requests.{answers, meets, lowest, placeAt}
+use Rattle.scan.specs.Scan.{firstAt}
+use Rattle.events.specs.declared.Event.{Event}
+use Rattle.events.specs.Event.{field, eventOf}
+use Rattle.checks.specs.declared.Match.{Match}
+use Rattle.checks.specs.declared.Match.the-variants.{Unmatched, Matched}
+use Rattle.checks.specs.Checks.{traitsOf, isSome, noDevice, ackOwed, outOfOrder, mistypedBy, wrongType, isOpen, streamClosed, isTransfer, settling, idInUse, isFull, matchIn, matchOf, isUnmatched, isUnsolicited, noSuchRequest, tooLong, Check, _when_, firstOf, numberFor, numberOf}
+use Rattle.session.specs.declared.Session.{Session}
+use Rattle.session.specs.Session.{linkOf}
+use Rattle.session.specs.Step.{judged}
+use Rattle.claims.specs.Allowed.{among, isRequest, isReply, wants, onStream, endpointOf, inwardOf, countOf}
+use Rattle.claims.specs.Agree.{Facts, factsOf, factsBy, disordered, rowBy, typedBy, answersBy, answeredAt, agrees}
+use Rattle.claims.specs.Passes.{order-is, types-are, stream-is, stream-at, match-is, answers-is, unsolicited-is}
+use Rattle.claims.specs.Steps.{number-is, clean}
+
+abbrev pub longerThan : Requests → Content → Option ℕ → Bool
+longerThan t p none = false
+longerThan t p (some i) = ltb (placeAt t i .request .length) (countOf p)
+
+unfoldable pub checksBy : Session → Side → Content → List Check
+checksBy s from p =
+    25 when (not (among (0 ∷ 1 ∷ 4 ∷ 5 ∷ 22 ∷ 23 ∷ 24 ∷ []) (p .kind)) && not (s .device .present))
+    ∷ 27 when (among (1 ∷ 4 ∷ 5 ∷ []) (p .kind) && s .device .owed)
+    ∷ 26 when disordered (p .kind) (s .device)
+    ∷ 28 when mistypedBy (s .device .rows) (typedBy from p)
+    ∷ 29 when (isGuest from && leb 100 (p .kind) && leb (p .kind) 103 && isSome (lowest (s .requests) Settling))
+    ∷ 30 when (onStream from (p .kind) (inwardOf p) && not (stateAt (s .device .rows) (endpointOf p) .streaming))
+    ∷ 31 when (isRequest from (p .kind) && isSome (lowest (s .requests) (Id (p .id))))
+    ∷ 32 when (isRequest from (p .kind) && not (isSome (lowest (s .requests) Free)))
+    ∷ 33 when (isReply from (p .kind) (inwardOf p) && not (isSome (answeredAt (s .requests) p)) && not (among (14 ∷ 17 ∷ 27 ∷ []) (p .kind) && eqb (p .id) 0 && eqb (field "status" p) 4))
+    ∷ 34 when (isReply from (p .kind) (inwardOf p) && longerThan (s .requests) p (answeredAt (s .requests) p))
+    ∷ []
+
+-- ---- each check
+
+-- what follows a test is asked only where it holds
+same-behind : (b x y : Bool) → (b ≡ true → x ≡ y) → (b && x) ≡ (b && y)
+same-behind true x y f = f refl
+same-behind false x y f = refl
+
+module _ (s : Session) (from : Side) (p : Content) (a : factsOf (eventOf from p) ≡ factsBy from p) where
+  abbrev t : Requests
+  t = s .requests
+
+  abbrev e : Event
+  e = eventOf from p
+
+  stream-by : streamClosed (s .device .rows) e ≡ (onStream from (p .kind) (inwardOf p) && not (stateAt (s .device .rows) (endpointOf p) .streaming))
+  stream-by = stream-is s from p a ∙ same-behind (onStream from (p .kind) (inwardOf p)) _ _ (λ h. ap not (stream-at s from p a h))
+
+  module _ (r : isReply from (p .kind) (inwardOf p) ≡ true) where
+    -- the search for a request that it answers
+    found-by : lowest t (Answered (e .request) (e .answers)) ≡ answeredAt t p
+    unfolding lowest
+    found-by = λ k. firstAt (λ (q : Place). q .live && answers-is s from p a r (q .request) k) 0 (t .places)
+
+    match-by : matchOf t e ≡ matchIn t (answeredAt t p)
+    match-by = match-is s from p a r ∙ ap (matchIn t) found-by
+
+  unmatched-is : (o : Option ℕ) → isUnmatched (matchIn t o) ≡ not (isSome o)
+  unmatched-is none = refl
+  unmatched-is (some i) = refl
+
+  long-is : (o : Option ℕ) → tooLong e (matchIn t o) ≡ longerThan t p o
+  unfolding eventOf
+  long-is none = refl
+  long-is (some i) = refl
+
+  reply-is : traitsOf (e .class) .reply ≡ isReply from (p .kind) (inwardOf p)
+  reply-is k = a k .reply
+
+  matched-by : noSuchRequest e (matchOf t e) ≡ (isReply from (p .kind) (inwardOf p) && not (isSome (answeredAt t p)) && not (among (14 ∷ 17 ∷ 27 ∷ []) (p .kind) && eqb (p .id) 0 && eqb (field "status" p) 4))
+  matched-by = cases (isReply from (p .kind) (inwardOf p)) there elsewhere
+    where
+      there : isReply from (p .kind) (inwardOf p) ≡ true → noSuchRequest e (matchOf t e) ≡ (isReply from (p .kind) (inwardOf p) && not (isSome (answeredAt t p)) && not (among (14 ∷ 17 ∷ 27 ∷ []) (p .kind) && eqb (p .id) 0 && eqb (field "status" p) 4))
+      there r =
+          let m : isUnmatched (matchOf t e) ≡ not (isSome (answeredAt t p)) = ap isUnmatched (match-by r) ∙ unmatched-is (answeredAt t p) in
+          λ k. reply-is k && m k && not (unsolicited-is s from p a r k)
+
+      elsewhere : isReply from (p .kind) (inwardOf p) ≡ false → noSuchRequest e (matchOf t e) ≡ (isReply from (p .kind) (inwardOf p) && not (isSome (answeredAt t p)) && not (among (14 ∷ 17 ∷ 27 ∷ []) (p .kind) && eqb (p .id) 0 && eqb (field "status" p) 4))
+      elsewhere r =
+          ap (λ (b : Bool). b && isUnmatched (matchOf t e) && not (isUnsolicited e)) (reply-is ∙ r)
+          ∙ sym (ap (λ (b : Bool). b && not (isSome (answeredAt t p)) && not (among (14 ∷ 17 ∷ 27 ∷ []) (p .kind) && eqb (p .id) 0 && eqb (field "status" p) 4)) r)
+
+  short-by : tooLong e (matchOf t e) ≡ (isReply from (p .kind) (inwardOf p) && longerThan t p (answeredAt t p))
+  unfolding matchOf
+  short-by = cases (isReply from (p .kind) (inwardOf p)) there elsewhere
+    where
+      there : isReply from (p .kind) (inwardOf p) ≡ true → tooLong e (matchOf t e) ≡ (isReply from (p .kind) (inwardOf p) && longerThan t p (answeredAt t p))
+      there r = ap (tooLong e) (match-by r) ∙ long-is (answeredAt t p) ∙ sym (ap (λ (b : Bool). b && longerThan t p (answeredAt t p)) r)
+
+      elsewhere : isReply from (p .kind) (inwardOf p) ≡ false → tooLong e (matchOf t e) ≡ (isReply from (p .kind) (inwardOf p) && longerThan t p (answeredAt t p))
+      elsewhere r =
+          let n : traitsOf (e .class) .reply ≡ false = reply-is ∙ r in
+          let m : matchOf t e ≡ Unmatched = rw n in
+          ap (tooLong e) m ∙ sym (ap (λ (b : Bool). b && longerThan t p (answeredAt t p)) r)
+
+  all-by : numberOf (s .device) (s .requests) e ≡ firstOf (checksBy s from p)
+  unfolding numberOf numberFor checksBy eventOf
+  all-by k =
+      firstOf
+      (25 when (a k .device && not (s .device .present))
+      ∷ 27 when (a k .introduces && s .device .owed)
+      ∷ 26 when order-is s from p a k
+      ∷ 28 when types-are s from p a k
+      ∷ 29 when settling t e
+      ∷ 30 when stream-by k
+      ∷ 31 when (a k .request && isSome (lowest t (Id (p .id))))
+      ∷ 32 when (a k .request && not (isSome (lowest t Free)))
+      ∷ 33 when matched-by k
+      ∷ 34 when short-by k
+      ∷ [])
+
+-- of a packet that came out of the wire checks
+pub number-by : (s : Session) (from : Side) (p : Content) → wireNumber (linkOf from s) p ≡ 0 → judged s (eventOf from p) .number ≡ firstOf (checksBy s from p)
+number-by s from p w =
+    let c = clean (linkOf from s) p w in
+    number-is s (eventOf from p) ∙ all-by s from p (agrees from p (c .kind) (c .found) (c .sender))
