@@ -8,3 +8,4 @@ pub mod Number
 pub mod Runs
 pub mod Moves
 pub mod Examples
+pub mod Fit
