@@ -81,7 +81,7 @@ fn is_setting(kind: u8) -> bool
 }
 
 // A data request, by its kind.
-pub fn is_data(kind: u8) -> bool
+fn is_data(kind: u8) -> bool
     ensures { λ r. ⌜ r ≡ isData kind ⌝ }
 {
     (kind == 100) | (kind == 101) | (kind == 103)

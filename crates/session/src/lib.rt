@@ -16,7 +16,6 @@ use device::has_control_rows;
 use device::replace;
 use device::set_stream;
 use device::start_device;
-use endpoint::Endpoint;
 use events::Class;
 use events::Event;
 use events::Typed;

@@ -6,6 +6,7 @@
 mod captures;
 mod differential;
 mod generate;
+#[path = "../../wire/src/hex.rs"]
 mod hex;
 mod library;
 mod oracle;
