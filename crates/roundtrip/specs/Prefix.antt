@@ -14,10 +14,11 @@ use Rattle.roundtrip.specs.Cut.{Cut, more, whole, cutOf}
 use Rattle.roundtrip.specs.Wire.{Wire, Good, WireLaws, cut}
 
 -- of two ways to split one list, the longer first part begins with the shorter one
-longer : (a r e s : List ℕ) → a ++ r ≡ e ++ s → length a ≤ length e → e ≡ a ++ drop (length a) e
-longer a r e s q h =
-    let f : take (length a) e ≡ a = sym (take-append-le (length a) e s h) ∙ ap (take (length a)) (sym q) ∙ take-append-seam a r in
-    sym (take-append-drop (length a) e) ∙ ap (λ (b : List ℕ). b ++ drop (length a) e) f
+pub front : (a r e s : List ℕ) → a ++ r ≡ e ++ s → length e ≤ length a → take (length e) a ≡ e
+front a r e s q h = sym (take-append-le (length e) a r h) ∙ ap (take (length e)) q ∙ take-append-seam e s
+
+longer : (a r e s : List ℕ) → a ++ r ≡ e ++ s → length e ≤ length a → a ≡ e ++ drop (length e) a
+longer a r e s q h = sym (take-append-drop (length e) a) ∙ ap (λ (b : List ℕ). b ++ drop (length e) a) (front a r e s q h)
 
 -- the bytes of packets, one after the other
 unfoldable pub allBytes : (N : Wire) → N .K → List (N .P) → List ℕ
@@ -55,7 +56,7 @@ module _ (N : Wire) (W : WireLaws N) (k : N .K) where
             let e : List ℕ = N .encode k p in
             let d : List ℕ = drop (length a) e in
             let w : N .width k a ≤ length a = ltb-false (length a) (N .width k a) t in
-            let x : e ≡ a ++ d = longer a r e s q (omega arith) in
+            let x : e ≡ a ++ d = longer e s a r (sym q) (omega arith) in
             let f : N .width k e ≡ N .width k a = ap (N .width k) x ∙ W .same-width k a d (omega (arith, W .wide k a)) in
             let l : N .lengthOf e ≡ N .lengthOf a = ap (N .lengthOf) x ∙ W .same-length k a d w in
             let z : N .headNo k a ≡ 0 = sym (ap (N .headNo k) x ∙ W .same-number k a d w) ∙ g .header in
@@ -69,7 +70,7 @@ module _ (N : Wire) (W : WireLaws N) (k : N .K) where
         let e : List ℕ = N .encode k p in
         let d : List ℕ = drop (length e) a in
         let v : N .width k e ≤ length e = omega (arith, g .size) in
-        let x : a ≡ e ++ d = longer e s a r (sym q) h in
+        let x : a ≡ e ++ d = longer a r e s q h in
         let f : N .width k a ≡ N .width k e = ap (N .width k) x ∙ W .same-width k e d (long p g) in
         let l : N .lengthOf a ≡ N .lengthOf e = ap (N .lengthOf) x ∙ W .same-length k e d v in
         let z : N .headNo k a ≡ 0 = ap (N .headNo k) x ∙ W .same-number k e d v ∙ g .header in

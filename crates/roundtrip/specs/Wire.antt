@@ -22,6 +22,9 @@ pub record Wire : Type 1 where
   pub encode : K → P → List ℕ
   -- a packet that the writer accepts
   pub Accepted : K → P → Type 0
+  -- a packet of which "each field not shared is shown as absent", and one that has "what the shared set doesn't allow"
+  pub Absent : K → P → Type 0
+  pub Unshared : K → P → Type 0
 
 -- what the bytes `all` from a packet's start are
 abbrev pub cut : (N : Wire) → N .K → List ℕ → Cut
@@ -46,3 +49,5 @@ pub record WireLaws (N : Wire) : Type 0 where
   pub same-length : (k : N .K) (a b : List ℕ) → N .width k a ≤ length a → N .lengthOf (a ++ b) ≡ N .lengthOf a
   -- an accepted packet makes the round trip
   pub good : (k : N .K) (p : N .P) → N .Accepted k p → Good N k p
+  -- and has no field that is not shared
+  pub absent : (k : N .K) (p : N .P) → N .Accepted k p → N .Absent k p

@@ -1,0 +1,92 @@
+-- What bytes are, case by case, in the values that the code has: the header's size, its number, and the length that it says.
+-- Assumes nothing.
+use mathlib.Core.Path.{_≡_, refl, sym, ap, ap₂, _∙_}
+use mathlib.Core.Bool.{Bool, true, false, cond}
+use mathlib.Core.List.{List, _++_}
+use Prim.Native.Nat.{ℕ, suc, _+_, _-_, _*_, _≤_, _<_}
+use native.Mathlib.Omega.{arith}
+use lib.ListN.{length, getD, take, length-append}
+use lib.Seq.{sets, getD-append-add}
+use lib.Dec.{ltb, eqb}
+use borrow.Author.Tests.{lt-ltb, le-ltb, ne-eqb}
+use Rattle.number.specs.Little.{le}
+use Rattle.header.specs.declared.Link.{Link}
+use Rattle.header.specs.Link.{idWidth}
+use Rattle.header.specs.Laws.{id-widths}
+use Rattle.header.specs.Header.{kindOf, lengthOf, headerSize, headerNumber}
+use Rattle.roundtrip.specs.Cut.{Cut, more, bad, whole, cutOf}
+use Rattle.frame.specs.declared.Cut.{Cut as Found}
+use Rattle.frame.specs.declared.Cut.the-variants.{More, Refused, Whole}
+use Rattle.frame.specs.Frame.{headSize, headNumber, cutAt, found, cutFor, completed}
+
+module _ (l : Link) (a b : List ℕ) (kind len w : ℕ) (ek : kind ≡ kindOf (a ++ b)) (el : len ≡ lengthOf (a ++ b)) (ew : w ≡ idWidth l kind) where
+  size-is : headSize l (a ++ b) ≡ 8 + w
+  unfolding headerSize
+  size-is = ap (λ (k : ℕ). 8 + idWidth l k) (sym ek) ∙ ap (λ (n : ℕ). 8 + n) (sym ew)
+
+  number-is : (n : ℕ) → n ≡ headerNumber l kind len → headNumber l (a ++ b) ≡ n
+  number-is n en = ap₂ (headerNumber l) (sym ek) (sym el) ∙ sym en
+
+  pub cut-short : length b < 8 + w - length a → More ≡ cutFor l (a ++ b)
+  unfolding cutFor cutOf
+  cut-short h =
+      let g : length (a ++ b) < headSize l (a ++ b) = omega (arith, size-is, length-append a b) in
+      rw (lt-ltb (length (a ++ b)) (headSize l (a ++ b)) g)
+
+  module _ (h : 8 + w - length a ≤ length b) (n : ℕ) (en : n ≡ headerNumber l kind len) where
+    header : headSize l (a ++ b) ≤ length (a ++ b)
+    header = omega (arith, size-is, length-append a b)
+
+    pub cut-refused : (n ≡ 0 → ⊥) → Refused n (8 + w) ≡ cutFor l (a ++ b)
+    unfolding cutFor cutOf
+    cut-refused z =
+        let t = le-ltb (length (a ++ b)) (headSize l (a ++ b)) header in
+        let q : eqb (headNumber l (a ++ b)) 0 ≡ false = ne-eqb (headNumber l (a ++ b)) 0 (λ e. z (sym (number-is n en) ∙ e)) in
+        rw (t, q) (ap₂ Refused (sym (number-is n en)) (sym size-is))
+
+    module _ (z : n ≡ 0) where
+      zero-is : eqb (headNumber l (a ++ b)) 0 ≡ true
+      zero-is = ap (λ (m : ℕ). eqb m 0) (number-is n en ∙ z)
+
+      whole-is : headSize l (a ++ b) + lengthOf (a ++ b) ≡ 8 + w + len
+      whole-is = ap₂ (λ (x y : ℕ). x + y) size-is (sym el)
+
+      pub cut-part : length b < 8 + w + len - length a → More ≡ cutFor l (a ++ b)
+      unfolding cutFor cutOf
+      cut-part g =
+          let t = le-ltb (length (a ++ b)) (headSize l (a ++ b)) header in
+          let k : length (a ++ b) < headSize l (a ++ b) + lengthOf (a ++ b) = omega (arith, whole-is, length-append a b) in
+          rw (t, zero-is, lt-ltb (length (a ++ b)) (headSize l (a ++ b) + lengthOf (a ++ b)) k)
+
+      pub cut-full : 8 + w + len - length a ≤ length b → Whole (8 + w + len) ≡ cutFor l (a ++ b)
+      unfolding cutFor cutOf
+      cut-full g =
+          let t = le-ltb (length (a ++ b)) (headSize l (a ++ b)) header in
+          let k : headSize l (a ++ b) + lengthOf (a ++ b) ≤ length (a ++ b) = omega (arith, whole-is, length-append a b) in
+          rw (t, zero-is, le-ltb (length (a ++ b)) (headSize l (a ++ b) + lengthOf (a ++ b)) k) (ap Whole (sym whole-is))
+
+-- past a, a byte of b
+pub beyond : (a b : List ℕ) (i : ℕ) → length a ≤ i → getD b (i - length a) 0 ≡ getD (a ++ b) i 0
+beyond a b i h =
+    let e : i ≡ length a + (i - length a) = omega arith in
+    sym (ap (λ (k : ℕ). getD (a ++ b) k 0) e ∙ getD-append-add a b (i - length a) 0)
+
+-- an id has at most 8 bytes
+pub id-narrow : (l : Link) (kind : ℕ) → idWidth l kind ≤ 8
+id-narrow l kind = id-widths (λ w. w ≤ 8) (omega arith) (omega arith) l kind
+
+-- with bytes held, what is missing is laid behind them
+pub completed-begun : (hold piece src after : List ℕ) (held size taken : ℕ) → (held ≡ 0 → ⊥) → taken ≡ size - held → src ≡ take taken piece → after ≡ sets hold held src
+    → after ≡ completed hold held piece size
+completed-begun hold piece src after held size taken h et es ea =
+    rw (ne-eqb held 0 h) (ea ∙ ap (sets hold held) (es ∙ ap (λ (n : ℕ). take n piece) et))
+
+-- four bytes spell a number
+pub spelt : {b₀ b₁ b₂ b₃ : ℕ} (s : List ℕ) (at : ℕ) → b₃ ≡ getD s (at + 3) 0 → b₂ ≡ getD s (at + 2) 0 → b₁ ≡ getD s (at + 1) 0 → b₀ ≡ getD s at 0
+    → b₀ + 256 * (b₁ + 256 * (b₂ + 256 * b₃)) ≡ le 4 s at
+spelt s at e₃ e₂ e₁ e₀ =
+    let i₁ : at + 1 ≡ suc at = omega arith in
+    let i₂ : at + 2 ≡ suc (suc at) = omega arith in
+    let i₃ : at + 3 ≡ suc (suc (suc at)) = omega arith in
+    let byte : ℕ → ℕ = λ k. getD s k 0 in
+    rw (e₀, e₁ ∙ ap byte i₁, e₂ ∙ ap byte i₂, e₃ ∙ ap byte i₃) (omega arith)

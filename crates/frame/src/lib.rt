@@ -1,0 +1,111 @@
+// Framing: what the held bytes with a piece behind them are, what of the piece goes into the holding buffer, and where a packet lies.
+ghost use mathlib.Core.Path.{_≡_};
+ghost use mathlib.Core.List.{_++_};
+ghost use Prim.Native.Nat.{_-_, _<_, _≤_};
+ghost use lib.ListN.{getD};
+ghost use Rattle.number.specs.Little.{le};
+ghost use Rattle.frame.specs.Frame.{cutFor, completed, placeFor, bytesAt};
+use header::Link;
+use header::header_number;
+use header::id_width;
+use number::lay;
+use number::part;
+use number::saturating_sub;
+
+// What bytes are, counted from a packet's first byte: not a whole packet yet; a header that is refused, with its number and its
+// size; or a whole packet of so many bytes.
+pub enum Cut {
+    More,
+    Refused(u8, usize),
+    Whole(usize),
+}
+
+// Where a packet's bytes lie: at the front of the piece or of the holding buffer.
+pub enum Place {
+    Nowhere,
+    Piece,
+    Buffer,
+}
+
+// Byte i of a with b behind it, and 0 past the end.
+fn byte_across(a: &[u8], b: &[u8], i: usize) -> u8
+    ensures { λ r. ⌜ r ≡ getD (now (a .entry) ++ now (b .entry)) i 0 ⌝ }
+{
+    if i < a.len() {
+        return a[i];
+    }
+    let j = i - a.len();
+    if j < b.len() { b[j] } else { 0 }
+}
+
+fn wide(x: u8) -> u32
+    ensures { λ r. ⌜ (r ≡ x) × (r < 256) ⌝ }
+{
+    x as u32
+}
+
+// The number that four bytes of a with b behind it spell from `at` on.
+fn get32_across(a: &[u8], b: &[u8], at: usize) -> u32
+    requires { ⌜ at ≤ 4 ⌝ }
+    ensures { λ r. ⌜ r ≡ le 4 (now (a .entry) ++ now (b .entry)) at ⌝ }
+{
+    let b0 = wide(byte_across(a, b, at));
+    let b1 = wide(byte_across(a, b, at + 1));
+    let b2 = wide(byte_across(a, b, at + 2));
+    let b3 = wide(byte_across(a, b, at + 3));
+    b0 + 256 * (b1 + 256 * (b2 + 256 * b3))
+}
+
+// What the held bytes are with the piece behind them.
+pub fn cut_of(l: Link, held: &[u8], piece: &[u8]) -> Cut
+    ensures { λ r. ⌜ r ≡ cutFor l (now (held .entry) ++ now (piece .entry)) ⌝ }
+{
+    let kind = get32_across(held, piece, 0);
+    let length = get32_across(held, piece, 4) as usize;
+    let header = 8 + id_width(l, kind);
+    if piece.len() < saturating_sub(header, held.len()) {
+        return Cut::More;
+    }
+    let number = header_number(l, kind, length);
+    if number != 0 {
+        return Cut::Refused(number, header);
+    }
+    let size = header + length;
+    if piece.len() < saturating_sub(size, held.len()) {
+        return Cut::More;
+    }
+    Cut::Whole(size)
+}
+
+// Where a packet lies of which so many bytes were held.
+pub fn place_of(held: usize) -> Place
+    ensures { λ r. ⌜ r ≡ placeFor held ⌝ }
+{
+    if held == 0 {
+        Place::Piece
+    } else {
+        Place::Buffer
+    }
+}
+
+// Completes what was begun in the buffer to `size` bytes; what lies whole in the piece is not copied. The bytes taken of the piece.
+pub fn complete(hold: &mut [u8], held: usize, piece: &[u8], size: usize) -> usize
+    ensures { λ r. ⌜ (r ≡ size - held) × (now (hold .exit) ≡ completed (now (hold .entry)) held (now (piece .entry)) size) ⌝ }
+{
+    let taken = saturating_sub(size, held);
+    if held != 0 {
+        lay(hold, held, part(piece, 0, taken));
+    }
+    taken
+}
+
+// The first `size` bytes of the piece or of the buffer, wherever they lie.
+pub fn lend<'a>(place: Place, size: usize, piece: &'a [u8], hold: &'a [u8]) -> &'a [u8]
+    ensures { λ r. ⌜ now r ≡ bytesAt place size (now (piece .entry)) (now (hold .entry)) ⌝ }
+{
+    match place {
+        Place::Nowhere => part(piece, 0, 0),
+        Place::Piece => part(piece, 0, size),
+        Place::Buffer => part(hold, 0, size),
+    }
+}

@@ -1,0 +1,174 @@
+-- Where a packet lies when a reader call is over, and what can be held.
+-- Assumes nothing.
+use Prim.Native.Nat.{ℕ, _+_, _-_, _≤_, _<_}
+use native.Mathlib.Omega.{arith}
+use mathlib.Core.Path.{_≡_, refl, sym, ap, _∙_}
+use mathlib.Core.Bool.{Bool, true, false, cond, not, _&&_, _||_, true≢false}
+use mathlib.Core.List.{List, [], _++_}
+use lib.ListN.{length, take, drop, length-append}
+use lib.Seq.{sets, sets-eq, length-sets, take-at, take-append-add, length-take-le}
+use lib.Dec.{eqb, ltb}
+use borrow.Author.Tests.{eqb-true, ltb-false, lt-ltb, le-ltb, not-false}
+use Rattle.scan.specs.Logic.{or-parts, or-none}
+use Rattle.header.specs.declared.Side.{Side}
+use Rattle.header.specs.declared.Side.the-variants.{Guest, Host}
+use Rattle.header.specs.declared.Hello.{Hello}
+use Rattle.header.specs.declared.Link.{Link}
+use Rattle.header.specs.Link.{passed}
+use Rattle.device.specs.Device.{controlRows}
+use Rattle.requests.specs.Requests.{idsDiffer}
+use Rattle.session.specs.declared.Session.{Session}
+use Rattle.session.specs.Session.{linkOf, heldBad, unfit}
+use Rattle.roundtrip.specs.Cut.{Cut, more, bad, whole}
+use Rattle.roundtrip.specs.Told.{IsWhole, whole-is, IsBad, bad-is, more-short, whole-fits, more-less, more-head}
+use Rattle.wire.specs.Wire.{usbredir, laws}
+use Rattle.frame.specs.Frame.{headSize, cutAt, isMore, completed, placeFor, bytesAt}
+use Rattle.gate.specs.Offer.{heldOf, heldBytes, isWaiting, heldWhole, barred, Whole}
+
+-- so many bytes, of a buffer's front and of a piece behind it
+pub front-is : (hold piece : List ℕ) (held n : ℕ) → Whole hold piece held n → take n (take held hold ++ piece) ≡ take held hold ++ take (n - held) piece
+front-is hold piece held n w =
+    let l : length (take held hold) ≡ held = length-take-le held hold (omega (arith, w .room, w .begun)) in
+    let e : n ≡ length (take held hold) + (n - held) = omega (arith, w .begun) in
+    ap (λ (m : ℕ). take m (take held hold ++ piece)) e ∙ take-append-add (take held hold) piece (n - held)
+
+-- what is completed in the buffer stands at its front
+pub completed-front : (hold piece : List ℕ) (held n : ℕ) → Whole hold piece held n → take n (sets hold held (take (n - held) piece)) ≡ take held hold ++ take (n - held) piece
+completed-front hold piece held n w =
+    let l : length (take held hold) ≡ held = length-take-le held hold (omega (arith, w .room, w .begun)) in
+    let m : length (take (n - held) piece) ≡ n - held = length-take-le (n - held) piece (omega (arith, w .there)) in
+    let q : sets hold held (take (n - held) piece) ≡ take held hold ++ take (n - held) piece ++ drop (held + length (take (n - held) piece)) hold =
+    sets-eq (take (n - held) piece) hold held (omega (arith, w .room, w .begun)) in
+    ap (take n) q
+    ∙ take-at (take held hold ++ take (n - held) piece) (drop (held + length (take (n - held) piece)) hold) n
+    (omega (arith, length-append (take held hold) (take (n - held) piece), w .begun))
+
+-- "a packet begun there .. is completed there and stays readable"; "A packet that lies whole in the piece isn't copied."
+pub lies : (hold piece : List ℕ) (held n : ℕ) → Whole hold piece held n → bytesAt (placeFor held) n piece (completed hold held piece n) ≡ take n (take held hold ++ piece)
+lies hold piece held n w = go (eqb held 0) refl
+  where
+    go : (b : Bool) → eqb held 0 ≡ b → bytesAt (placeFor held) n piece (completed hold held piece n) ≡ take n (take held hold ++ piece)
+    go true t = let z : held ≡ 0 = eqb-true held 0 t in rw z refl
+    go false t = rw t (completed-front hold piece held n w ∙ sym (front-is hold piece held n w))
+
+-- a buffer stays as long as it was
+pub completed-length : (hold piece : List ℕ) (held n : ℕ) → length (completed hold held piece n) ≡ length hold
+completed-length hold piece held n = go (eqb held 0)
+  where
+    go : (b : Bool) → length (cond b hold (sets hold held (take (n - held) piece))) ≡ length hold
+    go true = refl
+    go false = length-sets hold held (take (n - held) piece)
+
+-- what stands behind the held bytes of a buffer that 41 allows, where these are not a packet yet
+module _ (l : Link) (hold piece : List ℕ) (held : ℕ) (room : 32784 ≤ length hold) (few : held ≤ 32783) where
+  held-length : length (take held hold) ≡ held
+  held-length = length-take-le held hold (omega arith)
+
+  pub more-few : cutAt l (take held hold ++ piece) ≡ more → held + length piece ≤ 32783
+  more-few e = omega (arith, more-short usbredir laws l (take held hold ++ piece) e, length-append (take held hold) piece, held-length)
+
+  module _ (m : cutAt l (take held hold) ≡ more) (n : ℕ) where
+    pub whole-here : cutAt l (take held hold ++ piece) ≡ whole n → Whole hold piece held n
+    whole-here e =
+        let f = whole-fits usbredir laws l (take held hold ++ piece) n e in
+        let i : IsWhole usbredir l (take held hold ++ piece) n = whole-is usbredir l (take held hold ++ piece) n e in
+        record {
+          room = omega (arith, f .1);
+          begun = omega (arith, more-less usbredir laws l (take held hold) piece m n e, held-length);
+          there = omega (arith, i .there, length-append (take held hold) piece, held-length);
+        }
+
+    pub header-here : cutAt l (take held hold ++ piece) ≡ bad n → Whole hold piece held (headSize l (take held hold ++ piece))
+    header-here e =
+        let i : IsBad usbredir l (take held hold ++ piece) n = bad-is usbredir l (take held hold ++ piece) n e in
+        record {
+          room = omega (arith, laws .narrow l (take held hold ++ piece));
+          begun = omega (arith, more-head usbredir laws l (take held hold) piece m n e, held-length);
+          there = omega (arith, i .there, length-append (take held hold) piece, held-length);
+        }
+
+-- ---- a call that can go on
+
+-- what 41, 43, 3 and 2 leave to the rest of the call
+pub record Ready (from : Side) (s : Session) (hold : List ℕ) : Type 0 where
+  pub room : 32784 ≤ length hold
+  pub fit : unfit s ≡ false
+  pub begun : cutAt (linkOf from s) (heldBytes from s hold) ≡ more
+  pub running : s .stopped ≡ false
+  pub speaking : isWaiting (linkOf from s) ≡ false
+
+is-more : (c : Cut) → not (isMore c) ≡ false → c ≡ more
+is-more more e = refl
+is-more (bad n) e = absurd (true≢false e)
+is-more (whole n) e = absurd (true≢false e)
+
+pub ready : (from : Side) (s : Session) (hold : List ℕ) → barred from s hold ≡ 0 → Ready from s hold
+unfolding barred
+ready from s hold e = go (ltb (length hold) 32784) refl (unfit s || heldWhole from s hold) refl (s .stopped) refl (isWaiting (linkOf from s)) refl
+  where
+    go : (a : Bool) → ltb (length hold) 32784 ≡ a → (b : Bool) → (unfit s || heldWhole from s hold) ≡ b → (c : Bool) → s .stopped ≡ c → (d : Bool) → isWaiting (linkOf from s) ≡ d → Ready from s hold
+    go true ea b eb c ec d ed = let z : _≡_ {A = ℕ} 41 0 = rw ea at e in absurd (omega arith)
+    go false ea true eb c ec d ed = let z : _≡_ {A = ℕ} 43 0 = rw (ea, eb) at e in absurd (omega arith)
+    go false ea false eb true ec d ed = let z : _≡_ {A = ℕ} 3 0 = rw (ea, eb, ec) at e in absurd (omega arith)
+    go false ea false eb false ec true ed = let z : _≡_ {A = ℕ} 2 0 = rw (ea, eb, ec, ed) at e in absurd (omega arith)
+    go false ea false eb false ec false ed =
+        let f = or-parts (unfit s) (heldWhole from s hold) eb in
+        record { room = ltb-false _ _ ea; fit = f .0; begun = is-more (cutAt (linkOf from s) (heldBytes from s hold)) (f .1); running = ec; speaking = ed }
+
+-- and the other way round
+pub not-barred : (from : Side) (s : Session) (hold : List ℕ) → Ready from s hold → barred from s hold ≡ 0
+unfolding barred
+not-barred from s hold r = simp (le-ltb (length hold) 32784 (r .room), r .fit, r .begun, r .running, r .speaking)
+
+-- ---- a session that 43 does not refuse for itself
+
+-- "a held count over 32,783 or, own hello passed and other's not, over 0" does not hold of n bytes held
+pub record FitCount (own other : Hello) (n : ℕ) : Type 0 where
+  pub few : n ≤ 32783
+  pub none-waiting : passed own ≡ true → passed other ≡ false → n ≡ 0
+
+-- nor "two live requests with one id; row 0 or 16 not control"
+pub record Fit (s : Session) : Type 0 where
+  pub guest : FitCount (s .guest) (s .host) (s .held .guest)
+  pub host : FitCount (s .host) (s .guest) (s .held .host)
+  pub ids : idsDiffer (s .requests .places) ≡ true
+  pub control : controlRows (s .device .rows) ≡ true
+
+count-fits : (own other : Hello) (n : ℕ) → heldBad own other n ≡ false → FitCount own other n
+count-fits own other n e =
+    let p = or-parts (ltb 32783 n) (passed own && not (passed other) && ltb 0 n) e in
+    record {
+      few = ltb-false _ _ (p .0);
+      none-waiting =
+          λ a b. let z : 0 < n → ⊥ = λ h. true≢false (sym (simp (a, b, lt-ltb 0 n h)) ∙ p .1) in omega (arith, z);
+    }
+
+fits-count : (own other : Hello) (n : ℕ) → FitCount own other n → heldBad own other n ≡ false
+fits-count own other n f = or-none (ltb 32783 n) (passed own && not (passed other) && ltb 0 n) (le-ltb 32783 n (f .few)) (go (passed own) refl (passed other) refl)
+  where
+    go : (a : Bool) → passed own ≡ a → (b : Bool) → passed other ≡ b → (a && not b && ltb 0 n) ≡ false
+    go false ea b eb = refl
+    go true ea true eb = refl
+    go true ea false eb = rw (f .none-waiting ea eb) refl
+
+pub fit-is : (s : Session) → unfit s ≡ false → Fit s
+unfolding unfit
+fit-is s e =
+    let a = or-parts (heldBad (s .guest) (s .host) (s .held .guest) || heldBad (s .host) (s .guest) (s .held .host) || not (idsDiffer (s .requests .places))) (not (controlRows (s .device .rows))) e in
+    let b = or-parts (heldBad (s .guest) (s .host) (s .held .guest) || heldBad (s .host) (s .guest) (s .held .host)) (not (idsDiffer (s .requests .places))) (a .0) in
+    let c = or-parts (heldBad (s .guest) (s .host) (s .held .guest)) (heldBad (s .host) (s .guest) (s .held .host)) (b .0) in
+    record {
+      guest = count-fits (s .guest) (s .host) (s .held .guest) (c .0);
+      host = count-fits (s .host) (s .guest) (s .held .host) (c .1);
+      ids = not-false _ (b .1);
+      control = not-false _ (a .1);
+    }
+
+pub is-fit : (s : Session) → Fit s → unfit s ≡ false
+unfolding unfit
+is-fit s f =
+    simp (fits-count (s .guest) (s .host) (s .held .guest) (f .guest), fits-count (s .host) (s .guest) (s .held .host) (f .host), f .ids, f .control)
+
+pub held-few : (from : Side) (s : Session) → unfit s ≡ false → heldOf from s ≤ 32783
+held-few Guest s e = fit-is s e .guest .few
+held-few Host s e = fit-is s e .host .few

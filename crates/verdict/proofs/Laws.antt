@@ -1,0 +1,83 @@
+-- A whole packet's verdict, where the wire checks refuse it and where they pass it.
+-- Assumes nothing.
+use Prim.Native.Nat.{ℕ}
+use native.Mathlib.Omega.{arith}
+use mathlib.Core.Path.{_≡_, refl, sym, ap, _∙_}
+use mathlib.Core.Bool.{Bool, true, false, cond}
+use mathlib.Core.List.{List}
+use mathlib.Core.Option.{Option, none, some}
+use lib.ListN.{length, drop}
+use lib.Seq.{slice, take-length}
+use lib.Dec.{eqb}
+use Rattle.header.specs.declared.Header.{Header}
+use Rattle.header.specs.declared.Link.{Link}
+use Rattle.header.specs.declared.Side.{Side}
+use Rattle.header.specs.Link.{sharedSet}
+use Rattle.header.specs.Header.{kindOf}
+use Rattle.kinds.specs.Codec.{decode, readNumber}
+use Rattle.packet.specs.declared.Packet.{Packet}
+use Rattle.packet.specs.Packet.{contentOf}
+use Rattle.decoder.specs.declared.Reading.{Reading}
+use Rattle.decoder.specs.declared.Reading.the-variants.{Refused, Passed as Read}
+use Rattle.decoder.specs.Reading.{Handed, Told as ReadTold, told, readOf}
+use Rattle.events.specs.declared.Event.{Event}
+use Rattle.events.specs.Event.{Means, eventOf}
+use Rattle.session.specs.declared.Session.{Session}
+use Rattle.session.specs.declared.Judged.{Judged}
+use Rattle.session.specs.Session.{linkOf}
+use Rattle.session.specs.Step.{judged}
+use Rattle.verdict.specs.declared.Verdict.{Verdict}
+use Rattle.verdict.specs.declared.Handed.the-variants.{Nothing, Passed}
+use Rattle.verdict.specs.Verdict.{refusedAs, Told, verdictOf, handedAs, tells, judgedAs}
+
+-- a reading that hands nothing has a number that is not 0
+handed-none : (t : Bool) (b : Handed) → none ≡ cond t (some b) none → t ≡ false
+handed-none true b e =
+    let z : _≡_ {A = ℕ} 0 1 = cc in
+    absurd (omega arith)
+handed-none false b e = refl
+
+same : {a b : Handed} → _≡_ {A = Option Handed} (some a) (some b) → a ≡ b
+same e = cc
+
+-- a packet is handed out where its number is 0
+handed-when : (b : Bool) (l : Link) (bytes : List ℕ) (h : Header) (p : Packet) (o : Option Handed) → told l bytes (Read h p) .handed ≡ o
+    → handedAs l bytes (cond b (Passed h p) Nothing) ≡ cond b o none
+handed-when true l bytes h p o e = e
+handed-when false l bytes h p o e = refl
+
+-- what a reading that passed tells
+passed-number : (l : Link) (bytes : List ℕ) (h : Header) (p : Packet) → told l bytes (Read h p) ≡ readOf l bytes → readNumber l bytes ≡ 0
+unfolding readOf
+passed-number l bytes h p g = sym (ap (λ (x : ReadTold). x .number) g)
+
+passed-content : (l : Link) (bytes : List ℕ) (h : Header) (p : Packet) → told l bytes (Read h p) ≡ readOf l bytes → readNumber l bytes ≡ 0
+    → contentOf (sharedSet l) (h .id) p (drop (h .size) bytes) ≡ decode l bytes
+unfolding readOf
+passed-content l bytes h p g z = ap (λ (x : Handed). x .content) (same (rw z at (ap (λ (x : ReadTold). x .handed) g)))
+
+module _ (s : Session) (from : Side) {l : Link} (same-link : l ≡ linkOf from s) (bytes : List ℕ) {r : Reading} (t : told l bytes r ≡ readOf l bytes) where
+  pub verdict-refused : {n k : ℕ} {next : Session} → r ≡ Refused n → k ≡ kindOf bytes → next ≡ refusedAs s k
+      → tells (linkOf from s) bytes (record { session = next; number = n; handed = Nothing }) ≡ verdictOf s from bytes
+  unfolding verdictOf readOf
+  verdict-refused e ek en =
+      let g = rw e at t in
+      let z : eqb (readNumber l bytes) 0 ≡ false = handed-none _ _ (ap (λ (x : ReadTold). x .handed) g) in
+      rw (← same-link, z, ap (λ (x : ReadTold). x .number) g, en, ek)
+
+  pub verdict-passed : {h : Header} {p : Packet} {body : List ℕ} {e : Event} {j : Judged} {v : Verdict} → r ≡ Read h p
+      → body ≡ slice (h .size) (length bytes) bytes
+      → Means from (h .id) p body e
+      → j ≡ judged s e
+      → v ≡ judgedAs j h p
+      → tells (linkOf from s) bytes v ≡ verdictOf s from bytes
+  unfolding verdictOf
+  verdict-passed {h} {p} {body} {e} {j} q b m ej ev =
+      let g = rw q at t in
+      let z : readNumber l bytes ≡ 0 = passed-number l bytes h p g in
+      let d = passed-content l bytes h p g z in
+      let c : contentOf (sharedSet l) (h .id) p body ≡ decode l bytes = rw (b, take-length bytes) d in
+      let k : j ≡ judged s (eventOf from (decode l bytes)) = rw (← c, ← m (sharedSet l)) ej in
+      rw (← same-link, z, ev, k)
+      (ap (λ (o : Option Handed). record { session = judged s (eventOf from (decode l bytes)) .session; number = judged s (eventOf from (decode l bytes)) .number; handed = o })
+      (handed-when (eqb (judged s (eventOf from (decode l bytes)) .number) 0) l bytes h p (readOf l bytes .handed) (ap (λ (x : ReadTold). x .handed) g)))

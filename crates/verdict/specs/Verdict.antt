@@ -1,0 +1,61 @@
+-- A whole packet: its number, what is handed out, and the session after it.
+-- Assumes nothing: these are definitions.
+use Prim.Native.Nat.{ℕ}
+use mathlib.Core.Bool.{Bool, true, false, cond}
+use mathlib.Core.List.{List}
+use mathlib.Core.Option.{Option, none, some}
+use lib.Dec.{eqb}
+use Rattle.header.specs.declared.Header.{Header}
+use Rattle.header.specs.declared.Link.{Link}
+use Rattle.header.specs.declared.Side.{Side}
+use Rattle.header.specs.Header.{kindOf}
+use Rattle.kinds.specs.Codec.{decode, readNumber}
+use Rattle.packet.specs.declared.Packet.{Packet}
+use Rattle.decoder.specs.declared.Reading.the-variants.{Passed as Read}
+use Rattle.decoder.specs.Reading.{Handed, told, readOf}
+use Rattle.events.specs.Event.{eventOf}
+use Rattle.session.specs.declared.Session.{Session}
+use Rattle.session.specs.declared.Judged.{Judged}
+use Rattle.session.specs.Session.{linkOf}
+use Rattle.session.specs.Step.{judged}
+use Rattle.verdict.specs.declared.Verdict.{Verdict}
+use Rattle.verdict.specs.declared.Handed.{Handed as CodeHanded}
+use Rattle.verdict.specs.declared.Handed.the-variants.{Nothing, Passed}
+
+abbrev pub stoppedNow : Session → Session
+stoppedNow s = record { guest = s .guest; host = s .host; stopped = true; held = s .held; device = s .device; requests = s .requests }
+
+-- "A hello refused with 23, 24 or 13 (that order) is taken whole and stops it too. All other refusals take the whole packet, drop it
+-- and go on."
+abbrev pub refusedAs : Session → ℕ → Session
+refusedAs s kind = cond (eqb kind 0) (stoppedNow s) s
+
+-- what a verdict says: the header, the content and the part of the packet that is handed out, as a reading tells them
+pub record Told : Type 0 where
+  pub session : Session
+  pub number : ℕ
+  pub handed : Option Handed
+
+-- "10 to 24 are the wire checks, 25 to 34 the session checks": of a packet that passed them all, "what the reader hands out is that reading"
+unfoldable pub verdictOf : Session → Side → List ℕ → Told
+verdictOf s from bytes =
+    cond (eqb (readNumber (linkOf from s) bytes) 0)
+    (record {
+      session = judged s (eventOf from (decode (linkOf from s) bytes)) .session;
+      number = judged s (eventOf from (decode (linkOf from s) bytes)) .number;
+      handed = cond (eqb (judged s (eventOf from (decode (linkOf from s) bytes)) .number) 0) (readOf (linkOf from s) bytes .handed) none;
+    })
+    (record { session = refusedAs s (kindOf bytes); number = readNumber (linkOf from s) bytes; handed = none })
+
+-- ---- what the code's types say
+
+abbrev pub handedAs : Link → List ℕ → CodeHanded → Option Handed
+handedAs l bytes Nothing = none
+handedAs l bytes (Passed h p) = told l bytes (Read h p) .handed
+
+abbrev pub tells : Link → List ℕ → Verdict → Told
+tells l bytes v = record { session = v .session; number = v .number; handed = handedAs l bytes (v .handed) }
+
+-- a judged packet in the code: handed out where its number is 0
+abbrev pub judgedAs : Judged → Header → Packet → Verdict
+judgedAs j h p = record { session = j .session; number = j .number; handed = cond (eqb (j .number) 0) (Passed h p) Nothing }
