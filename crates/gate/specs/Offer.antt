@@ -4,14 +4,14 @@ use Prim.Native.Nat.{ℕ, _+_, _-_, _≤_}
 use mathlib.Core.Bool.{Bool, true, false, cond, not, _&&_, _||_}
 use mathlib.Core.List.{List, [], _++_}
 use mathlib.Core.Option.{Option, none, some}
-use lib.ListN.{length, take}
-use lib.Seq.{sets, slice}
+use lib.ListN.{length, take, drop}
+use lib.Seq.{sets}
 use lib.Dec.{eqb, ltb}
 use Rattle.header.specs.declared.Side.{Side}
 use Rattle.header.specs.declared.Side.the-variants.{Guest, Host}
 use Rattle.header.specs.declared.Link.{Link}
 use Rattle.header.specs.Link.{passed, own}
-use Rattle.packet.specs.Packet.{inPart}
+use Rattle.packet.specs.Packet.{inPart, partNamed}
 use Rattle.decoder.specs.Reading.{Handed}
 use Rattle.session.specs.declared.Held.{Held}
 use Rattle.session.specs.declared.Session.{Session}
@@ -21,7 +21,8 @@ use Rattle.frame.specs.declared.Place.{Place}
 use Rattle.frame.specs.declared.Place.the-variants.{Nowhere}
 use Rattle.frame.specs.Frame.{headSize, cutAt, isMore, completed, placeFor, bytesAt}
 use Rattle.verdict.specs.Verdict.{Told, stoppedNow, verdictOf, handedAs}
-use Rattle.verdict.specs.declared.Handed.the-variants.{Nothing}
+use Rattle.verdict.specs.declared.Handed.{Handed as CodeHanded}
+use Rattle.verdict.specs.declared.Handed.the-variants.{Nothing, Passed}
 use Rattle.gate.specs.declared.Answer.{Answer}
 use Rattle.gate.specs.declared.Offered.{Offered}
 
@@ -144,13 +145,18 @@ outcome l r piece hold =
       hold = hold;
     }
 
+-- the body of a packet that is handed out, behind its header, and the part of it that the packet names
+abbrev pub bodyIn : CodeHanded → List ℕ → List ℕ
+bodyIn Nothing bytes = []
+bodyIn (Passed h p) bytes = drop (h .size) bytes
+
+abbrev pub dataIn : CodeHanded → List ℕ → List ℕ
+dataIn Nothing bytes = []
+dataIn (Passed h p) bytes = inPart (partNamed p) (drop (h .size) bytes)
+
 -- an answer without a packet
 abbrev pub withoutPacket : Session → ℕ → ℕ → Offered
 withoutPacket s n taken = record { session = s; answer = record { number = n; taken = taken; place = Nowhere; size = 0; handed = Nothing } }
-
--- a header that is refused
-abbrev pub withHeader : Session → ℕ → ℕ → ℕ → ℕ → Offered
-withHeader s held n taken size = record { session = stoppedNow s; answer = record { number = n; taken = taken; place = placeFor held; size = size; handed = Nothing } }
 
 -- the bytes of a whole packet of n bytes can be held and are there
 pub record Whole (hold piece : List ℕ) (held n : ℕ) : Type 0 where

@@ -15,22 +15,22 @@ use Rattle.session.specs.Session.{linkOf, unfit}
 use Rattle.gate.specs.Offer.{isWaiting}
 
 -- "It gives 43 (held bytes untested), 3, 2 (for a non-hello) as the reader does": 0 where the call can go on
-unfoldable pub shut : Side → Session → ℕ → ℕ
-shut from s kind =
+unfoldable pub shut : Side → Session → Bool → ℕ
+shut from s hello =
     cond (unfit s) 43
     (cond (s .stopped) 3
-    (cond (isWaiting (linkOf from s) && not (eqb kind 0)) 2 0))
+    (cond (isWaiting (linkOf from s) && not hello) 2 0))
 
 -- "then makes the wire checks, 10 to 12 included, then 40, and accepts all else"
 unfoldable pub writeBy : Side → Session → Content → ℕ → ℕ
-writeBy from s p room = orNext (shut from s (p .kind)) (writeNumber (linkOf from s) p room)
+writeBy from s p room = orNext (shut from s (eqb (p .kind) 0)) (writeNumber (linkOf from s) p room)
 
 -- the packet in front where the number is 0, else all as it was
 unfoldable pub output : Side → Session → Content → List ℕ → List ℕ
-output from s p out = cond (eqb (shut from s (p .kind)) 0) (written (linkOf from s) p out) out
+output from s p out = cond (eqb (shut from s (eqb (p .kind) 0)) 0) (written (linkOf from s) p out) out
 
 unfoldable pub outputSize : Side → Session → Content → ℕ → ℕ
-outputSize from s p room = cond (eqb (shut from s (p .kind)) 0) (writtenSize (linkOf from s) p room) 0
+outputSize from s p room = cond (eqb (shut from s (eqb (p .kind) 0)) 0) (writtenSize (linkOf from s) p room) 0
 
 pub record WritesBy (from : Side) (s : Session) (p : Content) (out : List ℕ) (r : Written) (after : List ℕ) : Type 0 where
   pub number : r .number ≡ writeBy from s p (length out)

@@ -7,7 +7,7 @@ ghost use Rattle.packet.specs.Packet.{contentOf};
 ghost use Rattle.header.specs.Link.{sharedSet};
 ghost use Rattle.session.specs.Session.{linkOf};
 ghost use Rattle.frame.specs.Frame.{bytesAt};
-ghost use Rattle.gate.specs.Offer.{heldOf, countAs, heldAs, heldBytes, isWaiting, heldWhole, barred, unmoved, kept, headerRefused, packetTaken, offerOf, outcome, withoutPacket, Whole};
+ghost use Rattle.gate.specs.Offer.{heldOf, countAs, heldAs, heldBytes, isWaiting, heldWhole, barred, unmoved, kept, headerRefused, packetTaken, offerOf, outcome, withoutPacket, bodyIn, dataIn, Whole};
 ghost use Rattle.verdict.specs.Verdict.{verdictOf};
 ghost use Rattle.gate.specs.Write.{shut, WritesBy};
 use encoder::Written;
@@ -24,6 +24,9 @@ use header::own_hello_passed;
 use number::lay;
 use number::part;
 use packet::Packet;
+use packet::is_hello;
+use packet::part_named;
+use packet::part_of;
 use session::Held;
 use session::Session;
 use session::is_unfit;
@@ -213,4 +216,64 @@ pub fn offer(s: Session, from: Side, hold: &mut [u8], piece: &[u8]) -> Offered
         Cut::Refused(n, size) => refuse_header(s, from, n, size, hold, piece),
         Cut::Whole(size) => take_packet(s, from, size, hold, piece),
     }
+}
+
+// The bytes of the packet, or of the header that was refused, where they lie when the call is over.
+pub fn bytes_of<'a>(a: Answer, piece: &'a [u8], hold: &'a [u8]) -> &'a [u8]
+    ensures { λ r. ⌜ now r ≡ bytesAt (a .place) (a .size) (now (piece .entry)) (now (hold .entry)) ⌝ }
+{
+    let place = a.place;
+    lend(place, a.size, piece, hold)
+}
+
+// The body of the packet that is handed out, and nothing where none is.
+pub fn body_of<'a>(a: Answer, piece: &'a [u8], hold: &'a [u8]) -> &'a [u8]
+    ensures { λ r. ⌜ now r ≡ bodyIn (a .handed) (bytesAt (a .place) (a .size) (now (piece .entry)) (now (hold .entry))) ⌝ }
+{
+    let bytes = bytes_of(a, piece, hold);
+    let handed = a.handed;
+    match handed {
+        Handed::Nothing => part(bytes, 0, 0),
+        Handed::Passed(h, _) => part(bytes, h.size, bytes.len()),
+    }
+}
+
+// The part of the body that the packet names: its data, a table's rows, a string, or a hello's version and words.
+pub fn data_of<'a>(a: Answer, piece: &'a [u8], hold: &'a [u8]) -> &'a [u8]
+    ensures { λ r. ⌜ now r ≡ dataIn (a .handed) (bytesAt (a .place) (a .size) (now (piece .entry)) (now (hold .entry))) ⌝ }
+{
+    let body = body_of(a, piece, hold);
+    let handed = a.handed;
+    match handed {
+        Handed::Nothing => body,
+        Handed::Passed(_, p) => part_of(body, part_named(p)),
+    }
+}
+
+// 43, 3 or 2 where one holds for a packet to be written, in that order, else 0.
+fn shut_by(s: Session, from: Side, hello: bool) -> u8
+    ensures { λ r. ⌜ r ≡ shut from s hello ⌝ }
+{
+    if is_unfit(s) {
+        return 43;
+    }
+    if s.stopped {
+        return 3;
+    }
+    if is_waiting(link_of(s, from)) & !hello {
+        2
+    } else {
+        0
+    }
+}
+
+// Writes a packet of a side, whose parts lie in body, at the front of out; where the number is not 0, out stays as it is.
+pub fn write(s: Session, from: Side, id: u64, p: Packet, body: &[u8], out: &mut [u8]) -> Written
+    ensures { λ r. ⌜ WritesBy from s (contentOf (sharedSet (linkOf from s)) id p (now (body .entry))) (now (out .entry)) r (now (out .exit)) ⌝ }
+{
+    let number = shut_by(s, from, is_hello(p));
+    if number != 0 {
+        return Written { number, size: 0 };
+    }
+    encoder::write(link_of(s, from), id, p, body, out)
 }

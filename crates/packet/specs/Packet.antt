@@ -6,7 +6,7 @@ use mathlib.Core.List.{List, [], _∷_, _++_}
 use mathlib.Core.Option.{Option, none, some}
 use lib.ListN.{length, drop}
 use lib.Seq.{slice}
-use lib.Dec.{ltb}
+use lib.Dec.{eqb, ltb}
 use Rattle.number.specs.Bits.{hasBit}
 use Rattle.kinds.specs.Table.{Bits, always, bit, bits, Field}
 use Rattle.kinds.specs.Content.{Value, one, Content, size, split}
@@ -86,6 +86,13 @@ shownOf caps (Bulk e status n stream part) = carrying 101 (one (e .0) ∷ one st
 shownOf caps (Iso e status n part) = carrying 102 (one (e .0) ∷ one status ∷ one n ∷ []) part
 shownOf caps (Interrupt e status n part) = carrying 103 (one (e .0) ∷ one status ∷ one n ∷ []) part
 shownOf caps (BufferedBulk stream n e status part) = carrying 104 (one stream ∷ one n ∷ one (e .0) ∷ one status ∷ []) part
+
+-- the part of the body that a packet names, whatever is shared
+abbrev pub partNamed : Packet → Part
+partNamed p = shownOf 0 p .part
+
+abbrev pub isHello : Packet → Bool
+isHello p = eqb (shownOf 0 p .kind) 0
 
 -- what a packet with its body says
 abbrev pub said : ℕ → Shown → List ℕ → Content

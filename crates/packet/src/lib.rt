@@ -2,7 +2,7 @@
 // What does not fit a field stays in the packet's body and is named by its part: a hello's version and words, the rows of the
 // two tables, a filter's string, data. Offsets count from the body's first byte.
 ghost use mathlib.Core.Path.{_≡_};
-ghost use Rattle.packet.specs.Packet.{inPart};
+ghost use Rattle.packet.specs.Packet.{inPart, partNamed, isHello};
 use endpoint::Endpoint;
 use number::part;
 
@@ -162,4 +162,67 @@ pub fn part_of(body: &[u8], p: Part) -> &[u8]
     let a = p.start;
     let e = p.end;
     part(body, a, e)
+}
+
+// The part of the body that a packet names, and an empty one where it names none.
+pub fn part_named(p: Packet) -> Part
+    ensures { λ r. ⌜ r ≡ partNamed p ⌝ }
+{
+    match p {
+        Packet::Hello { rest } => rest,
+        Packet::InterfaceTable { count: _, rows } => rows,
+        Packet::EndpointTable {
+            rows,
+            max_packet: _,
+            max_streams: _,
+        } => rows,
+        Packet::Filter { string } => string,
+        Packet::Control {
+            endpoint: _,
+            request: _,
+            requesttype: _,
+            status: _,
+            value: _,
+            index: _,
+            length: _,
+            data,
+        } => data,
+        Packet::Bulk {
+            endpoint: _,
+            status: _,
+            length: _,
+            stream: _,
+            data,
+        } => data,
+        Packet::Iso {
+            endpoint: _,
+            status: _,
+            length: _,
+            data,
+        } => data,
+        Packet::Interrupt {
+            endpoint: _,
+            status: _,
+            length: _,
+            data,
+        } => data,
+        Packet::BufferedBulk {
+            stream: _,
+            length: _,
+            endpoint: _,
+            status: _,
+            data,
+        } => data,
+        _ => Part { start: 0, end: 0 },
+    }
+}
+
+// A packet of kind 0.
+pub fn is_hello(p: Packet) -> bool
+    ensures { λ r. ⌜ r ≡ isHello p ⌝ }
+{
+    match p {
+        Packet::Hello { rest: _ } => true,
+        _ => false,
+    }
 }

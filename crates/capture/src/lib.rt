@@ -1,0 +1,209 @@
+// The report program's lines: an input line decoded, and the lines that the report writes.
+ghost use mathlib.Core.Path.{_≡_};
+ghost use Prim.Native.Nat.{_+_, _*_, _<_, min};
+ghost use mathlib.Core.List.{_++_};
+ghost use lib.Seq.{sets};
+ghost use Rattle.capture.specs.Lines.{startsWith, between, isHex, allHex, isSpelling, hexValue, spelt, pieceOf, lineOf, Decodes, decimal, sideField, answerLine, totalsLine, badLine, Forms, largest, Adds};
+use header::Side;
+use number::lay;
+use number::part;
+use number::put;
+
+// What an input line offers: nothing, or a piece of so many bytes from a side.
+pub enum Line {
+    Bad,
+    Piece(Side, usize),
+}
+
+fn starts_with(line: &[u8], prefix: &[u8]) -> bool
+    ensures { λ r. ⌜ r ≡ startsWith (now (prefix .entry)) (now (line .entry)) ⌝ }
+{
+    if line.len() < prefix.len() {
+        return false;
+    }
+    let mut i: usize = 0;
+    while i < prefix.len() {
+        if line[i] != prefix[i] {
+            return false;
+        }
+        i += 1;
+    }
+    true
+}
+
+fn between(first: u8, last: u8, b: u8) -> bool
+    ensures { λ r. ⌜ r ≡ between first last b ⌝ }
+{
+    (first <= b) & (b <= last)
+}
+
+fn is_hex(b: u8) -> bool
+    ensures { λ r. ⌜ r ≡ isHex b ⌝ }
+{
+    between(b'0', b'9', b) | between(b'a', b'f', b)
+}
+
+fn all_hex(s: &[u8]) -> bool
+    ensures { λ r. ⌜ r ≡ allHex (now (s .entry)) ⌝ }
+{
+    let mut i: usize = 0;
+    while i < s.len() {
+        if !is_hex(s[i]) {
+            return false;
+        }
+        i += 1;
+    }
+    true
+}
+
+// An even count of digits, at most 4,096.
+fn is_spelling(s: &[u8]) -> bool
+    ensures { λ r. ⌜ r ≡ isSpelling (now (s .entry)) ⌝ }
+{
+    all_hex(s) & (s.len() % 2 == 0) & (s.len() <= 4096)
+}
+
+// The value of a digit; 0 of any other byte.
+fn hex_value(b: u8) -> u8
+    ensures { λ r. ⌜ (r ≡ hexValue b) × (r < 16) ⌝ }
+{
+    if between(b'0', b'9', b) {
+        return b - b'0';
+    }
+    if between(b'a', b'f', b) {
+        return b - b'a' + 10;
+    }
+    0
+}
+
+fn hex_pair(high: u8, low: u8) -> u8
+    ensures { λ r. ⌜ r ≡ 16 * hexValue high + hexValue low ⌝ }
+{
+    16 * hex_value(high) + hex_value(low)
+}
+
+// Lays the bytes that s spells.
+fn lay_spelt(s: &[u8], out: &mut [u8])
+    ensures { λ _. ⌜ now (out .exit) ≡ sets (now (out .entry)) 0 (spelt (now (s .entry))) ⌝ }
+{
+    let n = s.len() / 2;
+    let mut i: usize = 0;
+    while i < n {
+        put(out, i, 1, hex_pair(s[2 * i], s[2 * i + 1]) as u64);
+        i += 1;
+    }
+}
+
+// Decodes what stands behind `bytes=`. The digits are tested first, so that a bad line lays nothing.
+fn decode_piece(from: Side, s: &[u8], out: &mut [u8]) -> Line
+    ensures { λ r. ⌜ Decodes (pieceOf from (now (s .entry))) (now (out .entry)) r (now (out .exit)) ⌝ }
+{
+    if is_spelling(s) {
+        lay_spelt(s, out);
+        return Line::Piece(from, s.len() / 2);
+    }
+    Line::Bad
+}
+
+// Decodes a line, without its newline: its bytes are laid at the front of out, and their count is told. A bad line changes nothing.
+pub fn decode_line(line: &[u8], out: &mut [u8]) -> Line
+    ensures { λ r. ⌜ Decodes (lineOf (now (line .entry))) (now (out .entry)) r (now (out .exit)) ⌝ }
+{
+    if starts_with(line, b"from=guest bytes=") {
+        return decode_piece(Side::Guest, part(line, 17, line.len()), out);
+    }
+    if starts_with(line, b"from=host bytes=") {
+        return decode_piece(Side::Host, part(line, 16, line.len()), out);
+    }
+    Line::Bad
+}
+
+// a + b, and the largest number where that is more.
+fn saturating_add(a: usize, b: usize) -> usize
+    ensures { λ r. ⌜ r ≡ min (a + b) largest ⌝ }
+{
+    if b <= 18446744073709551615 - a {
+        a + b
+    } else {
+        18446744073709551615
+    }
+}
+
+// Lays more of a line that starts at `at` and has k bytes so far, and tells how many it has then.
+fn add_text(out: &mut [u8], at: usize, k: usize, text: &[u8]) -> usize
+    ensures { λ r. ⌜ Adds (now (text .entry)) at k (now (out .entry)) r (now (out .exit)) ⌝ }
+{
+    lay(out, saturating_add(at, k), text);
+    saturating_add(k, text.len())
+}
+
+// Adds x in decimal. Its digits are made from the last to the first.
+fn add_decimal(out: &mut [u8], at: usize, k: usize, x: u64) -> usize
+    ensures { λ r. ⌜ Adds (decimal x) at k (now (out .entry)) r (now (out .exit)) ⌝ }
+{
+    let mut digits = [0u8; 20];
+    let mut i: usize = 19;
+    let mut n = x;
+    digits[19] = b'0' + (n % 10) as u8;
+    while 10 <= n {
+        n = n / 10;
+        i -= 1;
+        digits[i] = b'0' + (n % 10) as u8;
+    }
+    add_text(out, at, k, &digits[i..])
+}
+
+// Adds a name and its number.
+fn add_field(out: &mut [u8], at: usize, k: usize, name: &[u8], x: u64) -> usize
+    ensures { λ r. ⌜ Adds (now (name .entry) ++ decimal x) at k (now (out .entry)) r (now (out .exit)) ⌝ }
+{
+    let n = add_text(out, at, k, name);
+    add_decimal(out, at, n, x)
+}
+
+fn add_side(out: &mut [u8], at: usize, from: Side) -> usize
+    ensures { λ r. ⌜ Adds (sideField from) at 0 (now (out .entry)) r (now (out .exit)) ⌝ }
+{
+    match from {
+        Side::Guest => add_text(out, at, 0, b"from=guest"),
+        Side::Host => add_text(out, at, 0, b"from=host"),
+    }
+}
+
+// Lays the line of an answer at `at`, and tells how many bytes it has.
+pub fn form_answer(
+    out: &mut [u8],
+    at: usize,
+    from: Side,
+    kind: u32,
+    length: u32,
+    id: u64,
+    answer: u8,
+) -> usize
+    ensures { λ r. ⌜ Forms (answerLine from kind length id answer) at (now (out .entry)) r (now (out .exit)) ⌝ }
+{
+    let a = add_side(out, at, from);
+    let b = add_field(out, at, a, b" type=", kind as u64);
+    let c = add_field(out, at, b, b" length=", length as u64);
+    let d = add_field(out, at, c, b" id=", id);
+    let e = add_field(out, at, d, b" answer=", answer as u64);
+    add_text(out, at, e, b"\n")
+}
+
+// Lays the line of the totals at `at`, and tells how many bytes it has.
+pub fn form_totals(out: &mut [u8], at: usize, passed: u64, refused: u64, stopped: bool) -> usize
+    ensures { λ r. ⌜ Forms (totalsLine passed refused stopped) at (now (out .entry)) r (now (out .exit)) ⌝ }
+{
+    let a = add_field(out, at, 0, b"passed=", passed);
+    let b = add_field(out, at, a, b" refused=", refused);
+    let c = add_field(out, at, b, b" stopped=", stopped as u64);
+    add_text(out, at, c, b"\n")
+}
+
+// Lays the line for an input line that can't be decoded at `at`, and tells how many bytes it has.
+pub fn form_bad(out: &mut [u8], at: usize) -> usize
+    ensures { λ r. ⌜ Forms badLine at (now (out .entry)) r (now (out .exit)) ⌝ }
+{
+    lay(out, at, b"line=bad\n");
+    9
+}

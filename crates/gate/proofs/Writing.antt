@@ -1,0 +1,117 @@
+-- What a writer call of the code gives, case by case, is what the definition gives.
+-- Assumes nothing.
+use Prim.Native.Nat.{ℕ}
+use native.Mathlib.Omega.{arith}
+use mathlib.Core.Path.{_≡_, refl, sym, ap, _∙_}
+use mathlib.Core.Bool.{Bool, true, false, cond, not, _&&_}
+use mathlib.Core.List.{List, []}
+use lib.ListN.{length, drop}
+use lib.Seq.{slice, take-length}
+use lib.Dec.{eqb}
+use borrow.Author.Tests.{ne-eqb, eq-eqb}
+use Rattle.header.specs.declared.Header.{Header}
+use Rattle.header.specs.declared.Side.{Side}
+use Rattle.header.specs.declared.Link.{Link}
+use Rattle.header.specs.Link.{sharedSet}
+use Rattle.kinds.specs.Content.{Content}
+use Rattle.kinds.specs.Codec.{orNext, writeNumber, writtenSize, written, Accepted}
+use Rattle.packet.specs.declared.Part.{Part}
+use Rattle.packet.specs.declared.Packet.{Packet}
+use Rattle.packet.specs.declared.Packet.the-variants.{Hello, Connect, Disconnect, Reset, InterfaceTable, EndpointTable, SetConfiguration, GetConfiguration, ConfigurationStatus, SetAlt, GetAlt, AltStatus, StartIso, StopIso, IsoStatus, StartInterrupt, StopInterrupt, InterruptStatus, AllocStreams, FreeStreams, StreamsStatus, Cancel, FilterReject, Filter, DisconnectAck, StartBulkReceiving, StopBulkReceiving, BulkReceivingStatus, Control, Bulk, Iso, Interrupt, BufferedBulk}
+use Rattle.packet.specs.Packet.{shownOf, contentOf, inPart, partNamed, isHello}
+use Rattle.encoder.specs.declared.Written.{Written}
+use Rattle.encoder.specs.Written.{Writes}
+use Rattle.session.specs.declared.Session.{Session}
+use Rattle.session.specs.Session.{linkOf, unfit}
+use Rattle.verdict.specs.declared.Handed.{Handed}
+use Rattle.verdict.specs.declared.Handed.the-variants.{Nothing, Passed}
+use Rattle.gate.specs.Offer.{isWaiting, bodyIn, dataIn}
+use Rattle.gate.specs.Write.{shut, writeBy, output, outputSize, WritesBy}
+
+-- ---- what is handed out, lent
+
+module _ {handed : Handed} (bytes : List ℕ) where
+  pub body-none : handed ≡ Nothing → [] ≡ bodyIn handed bytes
+  body-none e = ap (λ (h : Handed). bodyIn h bytes) (sym e)
+
+  pub body-passed : {h : Header} {p : Packet} {lent r : List ℕ} → handed ≡ Passed h p → lent ≡ bytes → r ≡ slice (h .size) (length lent) lent → r ≡ bodyIn handed bytes
+  body-passed {h} {lent = lent} e el er =
+      er ∙ ap (drop (h .size)) (take-length lent ∙ el) ∙ ap (λ (h : Handed). bodyIn h bytes) (sym e)
+
+  pub data-none : {body : List ℕ} → handed ≡ Nothing → body ≡ bodyIn handed bytes → body ≡ dataIn handed bytes
+  data-none e eb = eb ∙ ap (λ (h : Handed). bodyIn h bytes) e ∙ ap (λ (h : Handed). dataIn h bytes) (sym e)
+
+  pub data-passed : {h : Header} {p : Packet} {part : Part} {body r : List ℕ} → handed ≡ Passed h p → body ≡ bodyIn handed bytes → part ≡ partNamed p → r ≡ inPart part body
+      → r ≡ dataIn handed bytes
+  data-passed {h} {p} {part} {body} e eb ep er =
+      er ∙ ap (λ (q : Part). inPart q body) ep ∙ ap (inPart (partNamed p)) (eb ∙ ap (λ (h : Handed). bodyIn h bytes) e) ∙ ap (λ (h : Handed). dataIn h bytes) (sym e)
+
+-- ---- a writer call
+
+-- 2 comes last
+pub shut-last : (from : Side) (s : Session) (hello : Bool) {l : Link} {w t : Bool} → unfit s ≡ false → s .stopped ≡ false → l ≡ linkOf from s → w ≡ isWaiting l → (w && not hello) ≡ t
+    → cond t 2 0 ≡ shut from s hello
+unfolding shut
+shut-last from s hello e z el ew et =
+    let v : (isWaiting (linkOf from s) && not hello) ≡ _ = ap (λ (x : Bool). x && not hello) (ap isWaiting (sym el) ∙ sym ew) ∙ et in
+    rw (e, z) (ap (λ (x : Bool). cond x 2 0) (sym v))
+
+-- a packet's kind, whatever is shared
+kind-same : (caps : ℕ) (p : Packet) → shownOf caps p .kind ≡ shownOf 0 p .kind
+kind-same caps (Hello a) = refl
+kind-same caps (Connect a b c d e f g) = refl
+kind-same caps Disconnect = refl
+kind-same caps Reset = refl
+kind-same caps (InterfaceTable a b) = refl
+kind-same caps (EndpointTable a b c) = refl
+kind-same caps (SetConfiguration a) = refl
+kind-same caps GetConfiguration = refl
+kind-same caps (ConfigurationStatus a b) = refl
+kind-same caps (SetAlt a b) = refl
+kind-same caps (GetAlt a) = refl
+kind-same caps (AltStatus a b c) = refl
+kind-same caps (StartIso a b c) = refl
+kind-same caps (StopIso a) = refl
+kind-same caps (IsoStatus a b) = refl
+kind-same caps (StartInterrupt a) = refl
+kind-same caps (StopInterrupt a) = refl
+kind-same caps (InterruptStatus a b) = refl
+kind-same caps (AllocStreams a b) = refl
+kind-same caps (FreeStreams a) = refl
+kind-same caps (StreamsStatus a b c) = refl
+kind-same caps Cancel = refl
+kind-same caps FilterReject = refl
+kind-same caps (Filter a) = refl
+kind-same caps DisconnectAck = refl
+kind-same caps (StartBulkReceiving a b c d) = refl
+kind-same caps (StopBulkReceiving a b) = refl
+kind-same caps (BulkReceivingStatus a b c) = refl
+kind-same caps (Control a b c d e f g h) = refl
+kind-same caps (Bulk a b c d e) = refl
+kind-same caps (Iso a b c d) = refl
+kind-same caps (Interrupt a b c d) = refl
+kind-same caps (BufferedBulk a b c d e) = refl
+
+hello-is : (caps id : ℕ) (p : Packet) (body : List ℕ) → isHello p ≡ eqb (contentOf caps id p body .kind) 0
+unfolding contentOf
+hello-is caps id p body = ap (λ (k : ℕ). eqb k 0) (sym (kind-same caps p))
+
+module _ (from : Side) (s : Session) (id : ℕ) (p : Packet) (body out : List ℕ) {hello : Bool} {n : ℕ} (eh : hello ≡ isHello p) (en : n ≡ shut from s hello) where
+  abbrev content : Content
+  content = contentOf (sharedSet (linkOf from s)) id p body
+
+  shut-is : n ≡ shut from s (eqb (content .kind) 0)
+  shut-is = en ∙ ap (shut from s) (eh ∙ hello-is (sharedSet (linkOf from s)) id p body)
+
+  pub write-shut : (n ≡ 0 → ⊥) → WritesBy from s content out (record { number = n; size = 0 }) out
+  unfolding writeBy output outputSize
+  write-shut z =
+      let q : eqb (shut from s (eqb (content .kind) 0)) 0 ≡ false = ap (λ (m : ℕ). eqb m 0) (sym shut-is) ∙ ne-eqb n 0 z in
+      record { number = rw q shut-is; size = rw q refl; output = rw q refl; accepted = λ e. absurd (z e) }
+
+  pub write-open : n ≡ 0 → {l : Link} {r : Written} {after : List ℕ} → l ≡ linkOf from s → Writes l (contentOf (sharedSet l) id p body) out r after → WritesBy from s content out r after
+  unfolding writeBy output outputSize
+  write-open z {r = r} {after = after} el w =
+      let q : eqb (shut from s (eqb (content .kind) 0)) 0 ≡ true = ap (λ (m : ℕ). eqb m 0) (sym shut-is ∙ z) in
+      let v : Writes (linkOf from s) content out r after = rw el at w in
+      record { number = rw q (v .number); size = rw q (v .size); output = rw q (v .output); accepted = v .accepted }
