@@ -25,31 +25,31 @@ module _ (N : Wire) (W : WireLaws N) (k : N .K) where
       go true ih = (W .absent k p (a .0), ih)
       go false ih = tt
 
-module _ (N : Wire) (W : WireLaws N) (R : Reader N) (Q : ReaderLaws N R) (Y : Writer N (R .X)) (Z : WriterLaws N R Y) (x : R .X) (s : Start N R x) where
+module _ (N : Wire) (W : WireLaws N) (R : Reader N) (Q : ReaderLaws N R) (x : R .X) (s : Start N R x) (Y : Writer N) (Z : WriterLaws N (R .ctx x) Y) where
   -- the calls with number 0 have accepted packets, and put out their bytes
-  wrote : (ws : List (Y .W)) → AllAccepted N (R .ctx x) (accepted N (R .X) Y x ws) × (joined N (R .X) Y x ws ≡ allBytes N (R .ctx x) (accepted N (R .X) Y x ws))
+  wrote : (ws : List (Y .W)) → AllAccepted N (R .ctx x) (accepted N Y ws) × (joined N Y ws ≡ allBytes N (R .ctx x) (accepted N Y ws))
   unfolding accepted joined allBytes
   wrote [] = (tt, refl)
-  wrote (w ∷ ws) = go (eqb (Y .number x w) 0) refl (wrote ws)
+  wrote (w ∷ ws) = go (eqb (Y .number w) 0) refl (wrote ws)
     where
-      go : (b : Bool) → eqb (Y .number x w) 0 ≡ b
-          → AllAccepted N (R .ctx x) (accepted N (R .X) Y x ws) × (joined N (R .X) Y x ws ≡ allBytes N (R .ctx x) (accepted N (R .X) Y x ws))
-          → AllAccepted N (R .ctx x) (accepted N (R .X) Y x (w ∷ ws)) × (joined N (R .X) Y x (w ∷ ws) ≡ allBytes N (R .ctx x) (accepted N (R .X) Y x (w ∷ ws)))
+      go : (b : Bool) → eqb (Y .number w) 0 ≡ b
+          → AllAccepted N (R .ctx x) (accepted N Y ws) × (joined N Y ws ≡ allBytes N (R .ctx x) (accepted N Y ws))
+          → AllAccepted N (R .ctx x) (accepted N Y (w ∷ ws)) × (joined N Y (w ∷ ws) ≡ allBytes N (R .ctx x) (accepted N Y (w ∷ ws)))
       go true e ih =
-          let z : Y .number x w ≡ 0 = eqb-true _ _ e in
-          rw (e, Z .bytes x w (s .sound) (s .running) z)
-          ((Z .checked x w (s .sound) (s .running) z, ih .0), ap (λ (r : List ℕ). N .encode (R .ctx x) (Y .packet x w) ++ r) (ih .1))
+          let z : Y .number w ≡ 0 = eqb-true _ _ e in
+          rw (e, Z .bytes w z)
+          ((Z .checked w z, ih .0), ap (λ (r : List ℕ). N .encode (R .ctx x) (Y .packet w) ++ r) (ih .1))
       go false e ih = rw e ih
 
-  reads : (ws : List (Y .W)) (cs : List (Call N R)) → Cuts N R (run N R x cs) (joined N (R .X) Y x ws)
-      → Read N R (R .ctx x) (accepted N (R .X) Y x ws) (run N R x cs)
+  reads : (ws : List (Y .W)) (cs : List (Call N R)) → Cuts N R (run N R x cs) (joined N Y ws)
+      → Read N R (R .ctx x) (accepted N Y ws) (run N R x cs)
   reads ws cs cuts =
       let h = wrote ws in
       let k : N .K = R .ctx x in
-      let ps : List (N .P) = accepted N (R .X) Y x ws in
+      let ps : List (N .P) = accepted N Y ws in
       let ts : List (Step N R) = run N R x cs in
       let r : Shown N R k ps (length (R .held x)) ts =
-      runs N W k R Q cs x ps (joined N (R .X) Y x ws)
+      runs N W k R Q cs x ps (joined N Y ws)
       (record {
         ctx = refl;
         sound = s .sound;
@@ -70,11 +70,11 @@ module _ (N : Wire) (W : WireLaws N) (R : Reader N) (Q : ReaderLaws N R) (Y : Wr
   demand3 =
       record {
         read = reads;
-        unshared = λ w u. Z .unshared x w (s .sound) (s .running) u;
+        unshared = Z .unshared;
         apart =
-            λ vs ws e. apart N W (R .ctx x) (accepted N (R .X) Y x vs) (accepted N (R .X) Y x ws) (wrote vs .0) (wrote ws .0)
+            λ vs ws e. apart N W (R .ctx x) (accepted N Y vs) (accepted N Y ws) (wrote vs .0) (wrote ws .0)
             (sym (wrote vs .1) ∙ e ∙ wrote ws .1);
         begins =
-            λ vs ws rest e. begins N W (R .ctx x) (accepted N (R .X) Y x vs) (accepted N (R .X) Y x ws) rest (wrote vs .0) (wrote ws .0)
+            λ vs ws rest e. begins N W (R .ctx x) (accepted N Y vs) (accepted N Y ws) rest (wrote vs .0) (wrote ws .0)
             (sym (wrote vs .1) ∙ e ∙ ap (λ (l : List ℕ). l ++ rest) (wrote ws .1));
       }

@@ -156,27 +156,27 @@ AllAbsent N k (p ∷ ps) = N .Absent k p × AllAbsent N k ps
 
 -- ---- the writer
 
--- a call w in a state: its packet, its number, and the bytes that it puts out
-pub record Writer (N : Wire) (X : Type 0) : Type 1 where
+-- "every writer call .. get the starting session": of a call w, its packet, its number, and the bytes that it puts out
+pub record Writer (N : Wire) : Type 1 where
   pub W : Type 0
-  pub packet : X → W → N .P
-  pub number : X → W → ℕ
-  pub put : X → W → List ℕ
+  pub packet : W → N .P
+  pub number : W → ℕ
+  pub put : W → List ℕ
 
-pub record WriterLaws (N : Wire) (R : Reader N) (Y : Writer N (R .X)) : Type 0 where
-  pub checked : (x : R .X) (w : Y .W) → R .Sound x → R .stopped x ≡ false → Y .number x w ≡ 0 → N .Accepted (R .ctx x) (Y .packet x w)
-  pub bytes : (x : R .X) (w : Y .W) → R .Sound x → R .stopped x ≡ false → Y .number x w ≡ 0 → Y .put x w ≡ N .encode (R .ctx x) (Y .packet x w)
-  pub unshared : (x : R .X) (w : Y .W) → R .Sound x → R .stopped x ≡ false → N .Unshared (R .ctx x) (Y .packet x w) → Y .number x w ≡ 0 → ⊥
+pub record WriterLaws (N : Wire) (k : N .K) (Y : Writer N) : Type 0 where
+  pub checked : (w : Y .W) → Y .number w ≡ 0 → N .Accepted k (Y .packet w)
+  pub bytes : (w : Y .W) → Y .number w ≡ 0 → Y .put w ≡ N .encode k (Y .packet w)
+  pub unshared : (w : Y .W) → N .Unshared k (Y .packet w) → Y .number w ≡ 0 → ⊥
 
--- "every writer call .. get the starting session": the packets of those that are accepted
-unfoldable pub accepted : (N : Wire) (X : Type 0) (Y : Writer N X) → X → List (Y .W) → List (N .P)
-accepted N X Y x [] = []
-accepted N X Y x (w ∷ ws) = cond (eqb (Y .number x w) 0) (Y .packet x w ∷ accepted N X Y x ws) (accepted N X Y x ws)
+-- the packets of the calls that are accepted
+unfoldable pub accepted : (N : Wire) (Y : Writer N) → List (Y .W) → List (N .P)
+accepted N Y [] = []
+accepted N Y (w ∷ ws) = cond (eqb (Y .number w) 0) (Y .packet w ∷ accepted N Y ws) (accepted N Y ws)
 
 -- "For every list of writer calls for that direction, refused ones included, join the bytes that the accepted calls put out."
-unfoldable pub joined : (N : Wire) (X : Type 0) (Y : Writer N X) → X → List (Y .W) → List ℕ
-joined N X Y x [] = []
-joined N X Y x (w ∷ ws) = cond (eqb (Y .number x w) 0) (Y .put x w) [] ++ joined N X Y x ws
+unfoldable pub joined : (N : Wire) (Y : Writer N) → List (Y .W) → List ℕ
+joined N Y [] = []
+joined N Y (w ∷ ws) = cond (eqb (Y .number w) 0) (Y .put w) [] ++ joined N Y ws
 
 -- ---- demand 3
 
@@ -195,14 +195,14 @@ pub record Read (N : Wire) (R : Reader N) (k : N .K) (ps : List (N .P)) (ts : Li
   pub absent : AllAbsent N k (outs N R ts)
   pub steady : Steady N R k ps 0 ts
 
-pub record Demand3 (N : Wire) (R : Reader N) (Y : Writer N (R .X)) (x : R .X) : Type 0 where
+pub record Demand3 (N : Wire) (R : Reader N) (Y : Writer N) (x : R .X) : Type 0 where
   -- "For every list of reader calls that offers these bytes, in any cuts, with whatever the other end sends between"
-  pub read : (ws : List (Y .W)) (cs : List (Call N R)) → Cuts N R (run N R x cs) (joined N (R .X) Y x ws)
-      → Read N R (R .ctx x) (accepted N (R .X) Y x ws) (run N R x cs)
+  pub read : (ws : List (Y .W)) (cs : List (Call N R)) → Cuts N R (run N R x cs) (joined N Y ws)
+      → Read N R (R .ctx x) (accepted N Y ws) (run N R x cs)
   -- "What the shared set doesn't allow, the writer refuses by number."
-  pub unshared : (w : Y .W) → N .Unshared (R .ctx x) (Y .packet x w) → Y .number x w ≡ 0 → ⊥
+  pub unshared : (w : Y .W) → N .Unshared (R .ctx x) (Y .packet w) → Y .number w ≡ 0 → ⊥
   -- "Two different lists of accepted packets from one start and direction never give the same bytes"
-  pub apart : (vs ws : List (Y .W)) → joined N (R .X) Y x vs ≡ joined N (R .X) Y x ws → accepted N (R .X) Y x vs ≡ accepted N (R .X) Y x ws
+  pub apart : (vs ws : List (Y .W)) → joined N Y vs ≡ joined N Y ws → accepted N Y vs ≡ accepted N Y ws
   -- "and one's bytes begin the other's only if its list does."
-  pub begins : (vs ws : List (Y .W)) (rest : List ℕ) → joined N (R .X) Y x vs ≡ joined N (R .X) Y x ws ++ rest
-      → (more : List (N .P)) × (accepted N (R .X) Y x vs ≡ accepted N (R .X) Y x ws ++ more)
+  pub begins : (vs ws : List (Y .W)) (rest : List ℕ) → joined N Y vs ≡ joined N Y ws ++ rest
+      → (more : List (N .P)) × (accepted N Y vs ≡ accepted N Y ws ++ more)

@@ -1,0 +1,313 @@
+-- Demand 3, of the reader and the writer that the contracts of `gate::offer` and `gate::write` cite: one theorem about lists.
+-- The general theorem (`roundtrip/specs/Demand3.antt`) asks laws of one call; here the reader and the writer are shown to have them.
+-- Assumes nothing.
+use Prim.Native.Nat.{ℕ, _+_, _-_, _^_, _≤_, _<_}
+use native.Mathlib.Omega.{arith}
+use mathlib.Core.Path.{_≡_, refl, sym, ap, subst, _∙_}
+use mathlib.Core.Bool.{Bool, true, false, cond, not, _&&_, _||_, true≢false}
+use mathlib.Core.List.{List, [], _∷_, _++_}
+use mathlib.Core.Option.{Option, none, some}
+use lib.ListN.{length, take, drop, length-append}
+use lib.Seq.{sets, length-sets, length-take-le, take-all, take-append-seam}
+use lib.Dec.{eqb, ltb, leb}
+use borrow.Author.Tests.{eqb-true, eq-eqb, ne-eqb, le-ltb}
+use borrow.Table.Steps.{cases}
+use Rattle.header.specs.declared.Side.{Side}
+use Rattle.header.specs.declared.Side.the-variants.{Guest, Host}
+use Rattle.header.specs.declared.Link.{Link}
+use Rattle.header.specs.Link.{passed, own, sharedSet}
+use Rattle.kinds.specs.Content.{Value, Content}
+use Rattle.kinds.specs.Number.{wireNumber}
+use Rattle.kinds.specs.Codec.{decode, encode, orNext, readNumber, packetNumber, writeNumber, written, writtenSize, Accepted}
+use Rattle.kinds.specs.RoundTrip.{both-zero}
+use Rattle.decoder.specs.Reading.{Handed, readOf}
+use Rattle.events.specs.declared.Event.{Event}
+use Rattle.events.specs.Event.{eventOf}
+use Rattle.checks.specs.Checks.{Check, firstOf, checks, matchOf, numberFor}
+use Rattle.session.specs.declared.Session.{Session}
+use Rattle.session.specs.Session.{linkOf, unfit}
+use Rattle.session.specs.Step.{judged}
+use Rattle.claims.specs.Kept.{Sized, kept-plain}
+use Rattle.roundtrip.specs.Cut.{Cut, more, bad, whole}
+use Rattle.roundtrip.specs.Wire.{Wire, WireLaws, cut}
+use Rattle.roundtrip.specs.Reader.{Answer, Reader, comesOut, Kept, Stopped, Part, Full, Open, ReaderLaws, Writer, WriterLaws, Start, Demand3}
+use Rattle.roundtrip.specs.Demand3.{demand3}
+use Rattle.wire.specs.Wire.{usbredir, laws, Unshared, unshared-refused}
+use Rattle.frame.specs.Frame.{cutAt, completed}
+use Rattle.verdict.specs.Verdict.{Told, verdictOf}
+use Rattle.gate.specs.Offer.{heldOf, heldAs, heldBytes, heldWhole, isWaiting, barred, Outcome, unmoved, kept, packetTaken, byCut, offerOf, Whole}
+use Rattle.encoder.specs.declared.Written.{Written}
+use Rattle.gate.specs.Write.{shut, writeBy, output, outputSize, WritesBy}
+use Rattle.gate.specs.Laws.{completed-length, completed-front, more-few, whole-here, Ready, not-barred, Fit, fit-is, is-fit, held-few}
+use Rattle.demands.specs.Numbers.{session-numbers}
+use Rattle.demands.specs.Kept.{opposite, whole-number, Sound, Keeps, offer-keeps}
+
+-- ---- the reader of a direction
+
+-- what the calls hand on: "session and holding buffer as the calls before it left them", of both directions
+pub record State : Type 0 where
+  pub session : Session
+  pub hold : List ℕ
+  pub other : List ℕ
+
+abbrev pub contents : Option Handed → List Content
+contents none = []
+contents (some h) = h .content ∷ []
+
+-- a call for the direction
+abbrev pub readBy : Side → State → List ℕ → Answer Content State
+readBy from x piece =
+    record {
+      number = offerOf from (x .session) (x .hold) piece .number;
+      taken = offerOf from (x .session) (x .hold) piece .taken;
+      next = record { session = offerOf from (x .session) (x .hold) piece .session; hold = offerOf from (x .session) (x .hold) piece .hold; other = x .other };
+      handed = contents (offerOf from (x .session) (x .hold) piece .handed);
+    }
+
+-- a call for the other: any piece, with its own buffer and its own held bytes, whatever these are
+abbrev pub otherBy : Side → State → List ℕ → State
+otherBy from x piece =
+    record {
+      session = offerOf (opposite from) (x .session) (x .other) piece .session;
+      hold = x .hold;
+      other = offerOf (opposite from) (x .session) (x .other) piece .hold;
+    }
+
+-- what every call keeps
+pub record SoundState (x : State) : Type 0 where
+  pub session : Sound (x .session)
+  -- "a buffer that 41 allows"
+  pub room : 32784 ≤ length (x .hold)
+
+abbrev pub reader : Side → Reader usbredir
+reader from =
+    record {
+      X = State;
+      O = List ℕ;
+      ctx = λ x. linkOf from (x .session);
+      stopped = λ x. x .session .stopped;
+      held = λ x. heldBytes from (x .session) (x .hold);
+      Sound = SoundState;
+      read = readBy from;
+      other = otherBy from;
+    }
+
+-- ---- the writer of the direction
+
+-- a call with the session s: its packet and its output. Where it is accepted, the packet's numbers fit their fields, as the types of the
+-- code's fields make them: the contract of `gate::write` says it of each call (`call-of`).
+pub record Call (from : Side) (s : Session) : Type 0 where
+  pub packet : Content
+  pub out : List ℕ
+  pub fits : writeBy from s packet (length out) ≡ 0 → Accepted (linkOf from s) packet
+
+-- every call of the code is such a call
+pub call-of : (from : Side) (s : Session) (p : Content) (out after : List ℕ) (r : Written) → WritesBy from s p out r after → Call from s
+call-of from s p out after r w = record { packet = p; out = out; fits = λ e. w .accepted (w .number ∙ e) }
+
+-- the bytes put out are the first of the output
+abbrev pub writer : Side → Session → Writer usbredir
+writer from s =
+    record {
+      W = Call from s;
+      packet = λ w. w .packet;
+      number = λ w. writeBy from s (w .packet) (length (w .out));
+      put = λ w. take (outputSize from s (w .packet) (length (w .out))) (output from s (w .packet) (w .out));
+    }
+
+-- ---- one call
+
+module _ (from : Side) (s : Session) (hold piece : List ℕ) where
+  pub offer-barred : (barred from s hold ≡ 0 → ⊥) → offerOf from s hold piece ≡ unmoved s hold (barred from s hold)
+  unfolding offerOf
+  offer-barred z = rw (ne-eqb (barred from s hold) 0 z) refl
+
+  pub offer-open : Ready from s hold → offerOf from s hold piece ≡ byCut from s hold piece (cutAt (linkOf from s) (heldBytes from s hold ++ piece))
+  unfolding offerOf
+  offer-open r = rw (not-barred from s hold r) refl
+
+held-as : (from : Side) (s : Session) (n : ℕ) → heldOf from (heldAs from n s) ≡ n
+held-as Guest s n = refl
+held-as Host s n = refl
+
+same-held : (d : Side) (s t : Session) → t .held ≡ s .held → heldOf d t ≡ heldOf d s
+same-held Guest s t e = λ i. e i .guest
+same-held Host s t e = λ i. e i .host
+
+opposite-twice : (d : Side) → opposite (opposite d) ≡ d
+opposite-twice Guest = refl
+opposite-twice Host = refl
+
+-- with both hellos passed no direction waits
+speaking : (from : Side) (s : Session) → Sound s → isWaiting (linkOf from s) ≡ false
+speaking from s h = rw (h .guest, h .host) (neither (passed (own (linkOf from s))))
+  where
+    neither : (b : Bool) → (b && false) ≡ false
+    neither true = refl
+    neither false = refl
+
+-- a state from which the direction can be read
+is-ready : (from : Side) (x : State) → Open usbredir (reader from) x → Ready from (x .session) (x .hold)
+is-ready from x o =
+    record {
+      room = o .sound .room;
+      fit = is-fit (x .session) (o .sound .session .fit);
+      begun = o .begun;
+      running = o .running;
+      speaking = speaking from (x .session) (o .sound .session);
+    }
+
+-- the session after a call, and the link
+module _ (from : Side) (x : State) (piece : List ℕ) (h : SoundState x) where
+  keeps : Keeps from (x .session) (offerOf from (x .session) (x .hold) piece .session)
+  keeps = offer-keeps from (x .session) (x .hold) piece (h .session)
+
+  same-link : (d : Side) → linkOf d (offerOf from (x .session) (x .hold) piece .session) ≡ linkOf d (x .session)
+  same-link d = λ i. record { sender = d; guest = keeps .guest i; host = keeps .host i }
+
+  after : length (offerOf from (x .session) (x .hold) piece .hold) ≡ length (x .hold) → Kept usbredir (reader from) x (readBy from x piece .next)
+  after e = record { ctx = same-link from; sound = record { session = keeps .sound; room = rw e (h .room) } }
+
+-- ---- the laws of the reader
+
+stopped-bar : (from : Side) (x : State) → SoundState x → x .session .stopped ≡ true → (b : Bool) → heldWhole from (x .session) (x .hold) ≡ b → barred from (x .session) (x .hold) ≡ cond b 43 3
+unfolding barred
+stopped-bar from x h z b e = rw (le-ltb (length (x .hold)) 32784 (h .room), is-fit (x .session) (h .session .fit), e, z) refl
+
+-- a stopped session
+stopped-call : (from : Side) (x : State) (piece : List ℕ) → SoundState x → x .session .stopped ≡ true → Stopped usbredir (reader from) x piece
+unfolding comesOut
+stopped-call from x piece h z = go (heldWhole from (x .session) (x .hold)) refl
+  where
+    from-bar : (n : ℕ) → barred from (x .session) (x .hold) ≡ n → (n ≡ 0 → ⊥) → comesOut n ≡ false → Stopped usbredir (reader from) x piece
+    from-bar n e nz c =
+        let q : offerOf from (x .session) (x .hold) piece ≡ unmoved (x .session) (x .hold) n = offer-barred from (x .session) (x .hold) piece (λ y. nz (sym e ∙ y)) ∙ ap (unmoved (x .session) (x .hold)) e in
+        record { number = rw q c; taken = rw q refl; next = rw q refl; handed = rw q refl }
+
+    go : (b : Bool) → heldWhole from (x .session) (x .hold) ≡ b → Stopped usbredir (reader from) x piece
+    go true e = from-bar 43 (stopped-bar from x h z true e) (λ y. omega arith) refl
+    go false e = from-bar 3 (stopped-bar from x h z false e) (λ y. omega arith) refl
+
+-- a packet that is not whole
+part-call : (from : Side) (x : State) (piece : List ℕ) → Open usbredir (reader from) x → cutAt (linkOf from (x .session)) (heldBytes from (x .session) (x .hold) ++ piece) ≡ more
+    → Part usbredir (reader from) x piece
+part-call from x piece o e =
+    let s : Session = x .session in
+    let r : Ready from s (x .hold) = is-ready from x o in
+    let few = more-few (linkOf from s) (x .hold) piece (heldOf from s) (r .room) (held-few from s (r .fit)) e in
+    let q : offerOf from s (x .hold) piece ≡ kept from s (x .hold) piece = offer-open from s (x .hold) piece r ∙ ap (byCut from s (x .hold) piece) e in
+    let w : Whole (x .hold) piece (heldOf from s) (heldOf from s + length piece) = record { room = omega (arith, r .room); begun = omega arith; there = omega arith } in
+    let m : heldOf from s + length piece - heldOf from s ≡ length piece = omega arith in
+    let f : take (heldOf from s + length piece) (sets (x .hold) (heldOf from s) piece) ≡ heldBytes from s (x .hold) ++ piece =
+    subst (λ (p : List ℕ). take (heldOf from s + length piece) (sets (x .hold) (heldOf from s) p) ≡ heldBytes from s (x .hold) ++ p) (ap (λ (k : ℕ). take k piece) m ∙ take-all (length piece) piece (omega arith))
+    (completed-front (x .hold) piece (heldOf from s) (heldOf from s + length piece) w) in
+    record {
+      number = ap (λ (p : Outcome). p .number) q;
+      taken = ap (λ (p : Outcome). p .taken) q;
+      held = ap (λ (p : Outcome). heldBytes from (p .session) (p .hold)) q ∙ ap (λ (k : ℕ). take k (sets (x .hold) (heldOf from s) piece)) (held-as from s (heldOf from s + length piece)) ∙ f;
+      handed = ap (λ (p : Outcome). contents (p .handed)) q;
+      running = ap (λ (p : Outcome). p .session .stopped) q ∙ r .running;
+      kept = after from x piece (o .sound) (ap (λ (p : Outcome). length (p .hold)) q ∙ length-sets (x .hold) (heldOf from s) piece);
+    }
+
+-- a whole packet that passes the wire checks
+verdict-open : (s : Session) (from : Side) (b : List ℕ) → readNumber (linkOf from s) b ≡ 0
+    → verdictOf s from b ≡ record { session = judged s (eventOf from (decode (linkOf from s) b)) .session; number = judged s (eventOf from (decode (linkOf from s) b)) .number; handed = cond (eqb (judged s (eventOf from (decode (linkOf from s) b)) .number) 0) (readOf (linkOf from s) b .handed) none }
+unfolding verdictOf
+verdict-open s from b z = rw z refl
+
+handed-when : (b : Bool) (l : Link) (bytes : List ℕ) (q : Content) → readNumber l bytes ≡ 0 → decode l bytes ≡ q → contents (cond b (readOf l bytes .handed) none) ≡ cond b (q ∷ []) []
+unfolding readOf
+handed-when true l bytes q z e = rw z (ap (λ (p : Content). p ∷ []) e)
+handed-when false l bytes q z e = refl
+
+full-call : (from : Side) (x : State) (piece : List ℕ) (n : ℕ) (q : Content) → Open usbredir (reader from) x
+    → cutAt (linkOf from (x .session)) (heldBytes from (x .session) (x .hold) ++ piece) ≡ whole n
+    → readNumber (linkOf from (x .session)) (take n (heldBytes from (x .session) (x .hold) ++ piece)) ≡ 0
+    → decode (linkOf from (x .session)) (take n (heldBytes from (x .session) (x .hold) ++ piece)) ≡ q
+    → Full usbredir (reader from) x piece n q
+unfolding comesOut
+full-call from x piece n q o e z d =
+    let s : Session = x .session in
+    let r : Ready from s (x .hold) = is-ready from x o in
+    let b : List ℕ = take n (heldBytes from s (x .hold) ++ piece) in
+    let j = judged (heldAs from 0 s) (eventOf from (decode (linkOf from s) b)) in
+    let k = kept-plain (heldAs from 0 s) (eventOf from (decode (linkOf from s) b)) in
+    let v = offer-open from s (x .hold) piece r ∙ ap (byCut from s (x .hold) piece) e ∙ ap (λ (t : Told). packetTaken from s (x .hold) piece t n) (verdict-open (heldAs from 0 s) from b z) in
+    let c : length (heldBytes from s (x .hold)) ≡ heldOf from s = length-take-le (heldOf from s) (x .hold) (omega (arith, r .room, held-few from s (r .fit))) in
+    record {
+      number = ap (λ (p : Outcome). comesOut (p .number)) v ∙ session-numbers (λ m. comesOut m ≡ true) (refl, (refl, (refl, (refl, (refl, (refl, (refl, (refl, (refl, (refl, (refl, tt))))))))))) (heldAs from 0 s) (eventOf from (decode (linkOf from s) b));
+      taken = ap (λ (p : Outcome). p .taken) v ∙ ap (λ (m : ℕ). n - m) (sym c);
+      held = ap (λ (p : Outcome). heldBytes from (p .session) (p .hold)) v ∙ ap (λ (m : ℕ). take m (completed (x .hold) (heldOf from s) piece n)) (same-held from (heldAs from 0 s) (j .session) (k .held) ∙ held-as from s 0);
+      handed = ap (λ (p : Outcome). contents (p .handed)) v ∙ handed-when (eqb (j .number) 0) (linkOf from s) b q z d ∙ ap (λ (m : ℕ). cond (eqb m 0) (q ∷ []) []) (sym (ap (λ (p : Outcome). p .number) v));
+      running = ap (λ (p : Outcome). p .session .stopped) v ∙ k .stopped ∙ r .running;
+      kept = after from x piece (o .sound) (ap (λ (p : Outcome). length (p .hold)) v ∙ completed-length (x .hold) piece (heldOf from s) n);
+    }
+
+-- a call for the other direction
+other-call : (from : Side) (x : State) (piece : List ℕ) → SoundState x → Kept usbredir (reader from) x (otherBy from x piece) × (heldBytes from (otherBy from x piece .session) (x .hold) ≡ heldBytes from (x .session) (x .hold))
+other-call from x piece h =
+    let k = offer-keeps (opposite from) (x .session) (x .other) piece (h .session) in
+    let e : heldOf from (otherBy from x piece .session) ≡ heldOf from (x .session) = subst (λ (d : Side). heldOf d (otherBy from x piece .session) ≡ heldOf d (x .session)) (opposite-twice from) (k .held) in (
+      record { ctx = λ i. record { sender = from; guest = k .guest i; host = k .host i }; sound = record { session = k .sound; room = h .room } },
+      ap (λ (n : ℕ). take n (x .hold)) e,
+    )
+
+pub reader-laws : (from : Side) → ReaderLaws usbredir (reader from)
+reader-laws from =
+    record {
+      stopped = stopped-call from;
+      part = part-call from;
+      full = λ x piece n q o e z d a. full-call from x piece n q o e z d;
+      other = λ x piece h. other-call from x piece h .0;
+      other-held = λ x piece h. other-call from x piece h .1;
+    }
+
+-- ---- the laws of the writer
+
+-- where a call's number is 0, so are its parts
+write-zero : (from : Side) (s : Session) (p : Content) (room : ℕ) → writeBy from s p room ≡ 0 → (shut from s (eqb (p .kind) 0) ≡ 0) × (writeNumber (linkOf from s) p room ≡ 0)
+unfolding writeBy
+write-zero from s p room e = both-zero (shut from s (eqb (p .kind) 0)) (writeNumber (linkOf from s) p room) e
+
+packet-zero : (l : Link) (p : Content) (room : ℕ) → writeNumber l p room ≡ 0 → packetNumber l p ≡ 0
+unfolding writeNumber
+packet-zero l p room e = both-zero (packetNumber l p) (cond (ltb room (length (encode l p))) 40 0) e .0
+
+puts : (from : Side) (s : Session) (p : Content) (out : List ℕ) → writeBy from s p (length out) ≡ 0 → take (outputSize from s p (length out)) (output from s p out) ≡ encode (linkOf from s) p
+unfolding output outputSize written writtenSize
+puts from s p out e =
+    let z = write-zero from s p (length out) e in
+    rw (z .0, z .1) (take-append-seam (encode (linkOf from s) p) (drop (length (encode (linkOf from s) p)) out))
+
+pub writer-laws : (from : Side) (s : Session) → WriterLaws usbredir (linkOf from s) (writer from s)
+writer-laws from s =
+    record {
+      checked = λ w e. w .fits e;
+      bytes = λ w e. puts from s (w .packet) (w .out) e;
+      unshared = λ w u e. unshared-refused (linkOf from s) (w .packet) u (packet-zero (linkOf from s) (w .packet) (length (w .out)) (write-zero from s (w .packet) (length (w .out)) e .1));
+    }
+
+-- ---- the theorem
+
+-- "Take any session that isn't stopped, both hellos passed with any capability sets that document 01 admits, .. and one direction at a
+-- packet's start"; "one that 43 doesn't refuse"; "The direction starts with nothing held and a buffer that 41 allows". Of the other
+-- direction's buffer and held bytes nothing is asked.
+pub record Starts (from : Side) (x : State) : Type 0 where
+  pub running : x .session .stopped ≡ false
+  pub guest : passed (x .session .guest) ≡ true
+  pub host : passed (x .session .host) ≡ true
+  pub fit : unfit (x .session) ≡ false
+  pub sized : Sized (x .session)
+  pub nothing-held : heldOf from (x .session) ≡ 0
+  pub room : 32784 ≤ length (x .hold)
+
+pub demand-3 : (from : Side) (x : State) → Starts from x → Demand3 usbredir (reader from) (writer from (x .session)) x
+demand-3 from x s =
+    demand3 usbredir laws (reader from) (reader-laws from) x
+    (record {
+      sound = record { session = record { guest = s .guest; host = s .host; fit = fit-is (x .session) (s .fit); sized = s .sized }; room = s .room };
+      running = s .running;
+      fresh = ap (λ (n : ℕ). take n (x .hold)) (s .nothing-held);
+    })
+    (writer from (x .session)) (writer-laws from (x .session))

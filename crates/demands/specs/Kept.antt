@@ -1,0 +1,181 @@
+-- What every reader call keeps, once both hellos have passed: the hellos, that 43 does not refuse the session, the lengths of its tables,
+-- and what the other direction holds.
+-- Assumes nothing.
+use Prim.Native.Nat.{ℕ, _+_, _≤_, _<_}
+use native.Mathlib.Omega.{arith}
+use mathlib.Core.Path.{_≡_, refl, sym, ap, subst, _∙_}
+use mathlib.Core.Bool.{Bool, true, false, cond, true≢false}
+use mathlib.Core.List.{List, [], _++_}
+use lib.ListN.{length, take, drop, take-append-drop}
+use lib.Seq.{length-take-le}
+use lib.Dec.{eqb, ltb}
+use borrow.Author.Tests.{eqb-true, eq-eqb, le-ltb}
+use borrow.Table.Steps.{cases}
+use Rattle.header.specs.declared.Side.{Side}
+use Rattle.header.specs.declared.Side.the-variants.{Guest, Host}
+use Rattle.header.specs.declared.Hello.{Hello}
+use Rattle.header.specs.declared.Link.{Link}
+use Rattle.header.specs.Link.{passed}
+use Rattle.header.specs.Header.{kindOf, lengthOf, headerSize, headerNumber}
+use Rattle.kinds.specs.Content.{Content}
+use Rattle.kinds.specs.Number.{wireNumber}
+use Rattle.kinds.specs.Codec.{decode, orNext, readNumber}
+use Rattle.events.specs.declared.Event.{Event}
+use Rattle.events.specs.Event.{eventOf}
+use Rattle.session.specs.declared.Session.{Session}
+use Rattle.session.specs.Session.{linkOf, unfit}
+use Rattle.session.specs.Step.{judged}
+use Rattle.claims.specs.Kept.{Sized, kept-ids, kept-control, event-control, kept-lengths, kept-hellos, kept-plain}
+use Rattle.roundtrip.specs.Cut.{Cut, more, bad, whole}
+use Rattle.roundtrip.specs.Told.{IsWhole, whole-is, whole-fits}
+use Rattle.wire.specs.Wire.{usbredir, laws}
+use Rattle.frame.specs.Frame.{headSize, headNumber, cutAt}
+use Rattle.verdict.specs.Verdict.{stoppedNow, refusedAs, verdictOf}
+use Rattle.gate.specs.Offer.{heldOf, heldAs, heldBytes, barred, Outcome, byCut, offerOf}
+use Rattle.gate.specs.Laws.{FitCount, Fit, is-fit, Ready, ready, more-few, held-few}
+
+abbrev pub opposite : Side → Side
+opposite Guest = Host
+opposite Host = Guest
+
+-- ---- the wire number of a whole packet
+
+-- "10 to 24 are the wire checks": bytes that are a whole packet get the number of what they say
+pub whole-number : (l : Link) (b : List ℕ) (n : ℕ) → cutAt l b ≡ whole n → readNumber l (take n b) ≡ wireNumber l (decode l (take n b))
+unfolding readNumber
+whole-number l b n e =
+    let w : IsWhole usbredir l b n = whole-is usbredir l b n e in
+    let t : List ℕ = take n b in
+    let j : t ++ drop n b ≡ b = take-append-drop n b in
+    let c : length t ≡ n = length-take-le n b (w .there) in
+    let long : 12 ≤ length t = omega (arith, whole-fits usbredir laws l b n e .0) in
+    let s : headSize l b ≡ headSize l t = ap (headSize l) (sym j) ∙ laws .same-width l t (drop n b) long in
+    let h : headSize l t ≤ length t = omega (arith, w .size) in
+    let m : headNumber l t ≡ 0 = sym (laws .same-number l t (drop n b) h) ∙ ap (headNumber l) j ∙ w .header in
+    let d : lengthOf t ≡ lengthOf b = sym (laws .same-length l t (drop n b) h) ∙ ap lengthOf j in
+    let z : length t ≡ headSize l t + lengthOf t = omega (arith, w .size) in
+    simp (le-ltb (length t) (headSize l t) h, m, eq-eqb (length t) (headSize l t + lengthOf t) z)
+
+-- ---- what is kept
+
+pub record Sound (s : Session) : Type 0 where
+  -- "both hellos passed"
+  pub guest : passed (s .guest) ≡ true
+  pub host : passed (s .host) ≡ true
+  -- "one that 43 doesn't refuse"
+  pub fit : Fit s
+  -- 96 places and 32 rows, as the code's arrays have
+  pub sized : Sized s
+
+-- what a call for direction d leaves of a session s
+pub record Keeps (d : Side) (s t : Session) : Type 0 where
+  pub sound : Sound t
+  pub guest : t .guest ≡ s .guest
+  pub host : t .host ≡ s .host
+  pub held : heldOf (opposite d) t ≡ heldOf (opposite d) s
+
+keeps-all : (d : Side) (s : Session) → Sound s → Keeps d s s
+keeps-all d s h = record { sound = h; guest = refl; host = refl; held = refl }
+
+keeps-on : (d : Side) (s t u : Session) → Keeps d s t → Keeps d t u → Keeps d s u
+keeps-on d s t u a b = record { sound = b .sound; guest = b .guest ∙ a .guest; host = b .host ∙ a .host; held = b .held ∙ a .held }
+
+-- with both hellos passed, 43 asks of a held count only that it is at most 32,783
+count-fits : (own other : Hello) (n : ℕ) → passed other ≡ true → n ≤ 32783 → FitCount own other n
+count-fits own other n p h = record { few = h; none-waiting = λ a b. absurd (true≢false (sym p ∙ b)) }
+
+counted : (d : Side) (s : Session) (n : ℕ) → Sound s → n ≤ 32783 → Keeps d s (heldAs d n s)
+counted Guest s n h few =
+    record {
+      sound =
+          record {
+            guest = h .guest;
+            host = h .host;
+            fit = record { guest = count-fits (s .guest) (s .host) n (h .host) few; host = h .fit .host; ids = h .fit .ids; control = h .fit .control };
+            sized = record { places = h .sized .places; rows = h .sized .rows };
+          };
+      guest = refl;
+      host = refl;
+      held = refl;
+    }
+counted Host s n h few =
+    record {
+      sound =
+          record {
+            guest = h .guest;
+            host = h .host;
+            fit = record { guest = h .fit .guest; host = count-fits (s .host) (s .guest) n (h .guest) few; ids = h .fit .ids; control = h .fit .control };
+            sized = record { places = h .sized .places; rows = h .sized .rows };
+          };
+      guest = refl;
+      host = refl;
+      held = refl;
+    }
+
+halted : (d : Side) (s : Session) → Sound s → Keeps d s (stoppedNow s)
+halted Guest s h = record { sound = record { guest = h .guest; host = h .host; fit = record { guest = h .fit .guest; host = h .fit .host; ids = h .fit .ids; control = h .fit .control }; sized = record { places = h .sized .places; rows = h .sized .rows } }; guest = refl; host = refl; held = refl }
+halted Host s h = record { sound = record { guest = h .guest; host = h .host; fit = record { guest = h .fit .guest; host = h .fit .host; ids = h .fit .ids; control = h .fit .control }; sized = record { places = h .sized .places; rows = h .sized .rows } }; guest = refl; host = refl; held = refl }
+
+same-held : (d : Side) (s t : Session) → t .held ≡ s .held → heldOf d t ≡ heldOf d s
+same-held Guest s t e = λ i. e i .guest
+same-held Host s t e = λ i. e i .host
+
+-- a packet that came out of the wire checks
+passing : (d : Side) (s : Session) (p : Content) → Sound s → wireNumber (linkOf d s) p ≡ 0 → Keeps d s (judged s (eventOf d p) .session)
+passing d s p h w =
+    let e : Event = eventOf d p in
+    let k = kept-hellos s e in
+    let g = k .guest (h .guest) in
+    let o = k .host (h .host) in
+    let q = kept-plain s e .held in
+    let back = sym q in
+    record {
+      sound =
+          record {
+            guest = ap passed g ∙ h .guest;
+            host = ap passed o ∙ h .host;
+            fit =
+                record {
+                  guest = count-fits _ _ _ (ap passed o ∙ h .host) (subst (λ (n : ℕ). n ≤ 32783) (λ i. back i .guest) (h .fit .guest .few));
+                  host = count-fits _ _ _ (ap passed g ∙ h .guest) (subst (λ (n : ℕ). n ≤ 32783) (λ i. back i .host) (h .fit .host .few));
+                  ids = kept-ids s e (h .fit .ids);
+                  control = kept-control s e (h .fit .control) (h .sized .rows) (event-control (linkOf d s) p w);
+                };
+            sized = kept-lengths s e (h .sized);
+          };
+      guest = g;
+      host = o;
+      held = same-held (opposite d) s (judged s e .session) q;
+    }
+
+refusing : (d : Side) (s : Session) (kind : ℕ) → Sound s → Keeps d s (refusedAs s kind)
+refusing d s kind h = go (eqb kind 0)
+  where
+    go : (b : Bool) → Keeps d s (cond b (stoppedNow s) s)
+    go true = halted d s h
+    go false = keeps-all d s h
+
+-- a whole packet
+judging : (d : Side) (s : Session) (b : List ℕ) (n : ℕ) → Sound s → cutAt (linkOf d s) b ≡ whole n → Keeps d s (verdictOf s d (take n b) .session)
+unfolding verdictOf
+judging d s b n h e =
+    cases (eqb (readNumber (linkOf d s) (take n b)) 0)
+    (λ t. rw t (passing d s (decode (linkOf d s) (take n b)) h (sym (whole-number (linkOf d s) b n e) ∙ eqb-true _ _ t)))
+    (λ t. rw t (refusing d s (kindOf (take n b)) h))
+
+-- every reader call
+pub offer-keeps : (d : Side) (s : Session) (hold piece : List ℕ) → Sound s → Keeps d s (offerOf d s hold piece .session)
+unfolding offerOf
+offer-keeps d s hold piece h =
+    cases (eqb (barred d s hold) 0)
+    (λ t. rw t (goes (ready d s hold (eqb-true _ _ t)) (cutAt (linkOf d s) (heldBytes d s hold ++ piece)) refl))
+    (λ t. rw t (keeps-all d s h))
+  where
+    goes : Ready d s hold → (c : Cut) → cutAt (linkOf d s) (heldBytes d s hold ++ piece) ≡ c → Keeps d s (byCut d s hold piece c .session)
+    goes r more e = counted d s (heldOf d s + length piece) h (more-few (linkOf d s) hold piece (heldOf d s) (r .room) (held-few d s (r .fit)) e)
+    goes r (bad n) e =
+        let k = counted d s 0 h (omega arith) in
+        keeps-on d s (heldAs d 0 s) (stoppedNow (heldAs d 0 s)) k (halted d (heldAs d 0 s) (k .sound))
+    goes r (whole n) e =
+        let k = counted d s 0 h (omega arith) in
+        keeps-on d s (heldAs d 0 s) _ k (judging d (heldAs d 0 s) (heldBytes d s hold ++ piece) n (k .sound) e)

@@ -1,0 +1,3 @@
+pub mod Numbers
+pub mod Kept
+pub mod Demand3

@@ -1,0 +1,74 @@
+-- Which numbers there are: those of a header, of the wire checks, of the session checks, and so of a whole packet.
+-- Assumes nothing.
+use Prim.Native.Nat.{ℕ}
+use mathlib.Core.Path.{_≡_, refl, sym, subst, _∙_}
+use mathlib.Core.Bool.{Bool, true, false, cond, not, _||_}
+use mathlib.Core.List.{List, [], _∷_}
+use mathlib.Core.Option.{Option, none, some}
+use lib.Dec.{eqb, ltb}
+use Rattle.header.specs.declared.Link.{Link}
+use Rattle.header.specs.Link.{passed, own, sharedSet}
+use Rattle.header.specs.Header.{headerNumber}
+use Rattle.kinds.specs.Table.{Kind, kinds}
+use Rattle.kinds.specs.Content.{Content, shared, find}
+use Rattle.kinds.specs.Number.{sends, surplus, wideId, sizeOk, bad, isNone, streamsAlone, inOrder, kindNumber, byKind, wireNumber}
+use Rattle.events.specs.declared.Event.{Event}
+use Rattle.checks.specs.Checks.{Check, firstOf, checks, matchOf, numberFor, numberOf}
+use Rattle.session.specs.declared.Session.{Session}
+use Rattle.session.specs.Step.{judged}
+use Rattle.claims.specs.Steps.{number-is}
+
+-- what holds of each number of a list
+abbrev pub Each : (ℕ → Type 0) → List ℕ → Type 0
+Each P [] = Unit {0}
+Each P (n ∷ ns) = P n × Each P ns
+
+module _ (P : ℕ → Type 0) where
+  pub header-numbers : Each P (0 ∷ 10 ∷ 11 ∷ 12 ∷ []) → (l : Link) (kind length : ℕ) → P (headerNumber l kind length)
+  unfolding headerNumber
+  header-numbers p l kind length = go (ltb 32768 length) (passed (own l)) (eqb kind 0)
+    where
+      go : (a b c : Bool) → P (cond a 10 (cond b (cond c 12 0) (cond c 0 11)))
+      go true b c = p .1 .0
+      go false true true = p .1 .1 .1 .0
+      go false true false = p .0
+      go false false true = p .0
+      go false false false = p .1 .1 .0
+
+  pub wire-numbers : Each P (0 ∷ 13 ∷ 20 ∷ 21 ∷ 22 ∷ 23 ∷ 24 ∷ []) → (l : Link) (p : Content) → P (wireNumber l p)
+  unfolding wireNumber kindNumber
+  wire-numbers p l q = known (find (q .kind) kinds)
+    where
+      order : (a b c d e : Bool) → P (inOrder a b c d e)
+      order true b c d e = p .1 .1 .1 .0
+      order false true c d e = p .1 .1 .1 .1 .0
+      order false false true d e = p .1 .1 .1 .1 .1 .0
+      order false false false true e = p .1 .1 .1 .1 .1 .1 .0
+      order false false false false true = p .1 .0
+      order false false false false false = p .0
+
+      known : (o : Option Kind) → P (byKind l o q)
+      known none = p .1 .1 .0
+      known (some k) =
+          order (not (sends (k .sender) (l .sender))) (not (shared (sharedSet l) (k .needs)) || surplus (sharedSet l) (k .fields) (q .fields) || wideId l q)
+          (not (sizeOk (l .sender) k q)) (not (isNone (bad (l .sender) (sharedSet l) k q))) (streamsAlone (k .tail) (q .rest))
+
+  -- the first of a list of checks
+  EachCheck : List Check → Type 0
+  EachCheck [] = Unit {0}
+  EachCheck (c ∷ cs) = P (c .number) × EachCheck cs
+
+  either : (b : Bool) (n m : ℕ) → P n → P m → P (cond b n m)
+  either true n m p q = p
+  either false n m p q = q
+
+  first-check : (cs : List Check) → P 0 → EachCheck cs → P (firstOf cs)
+  unfolding EachCheck
+  first-check [] z f = z
+  first-check (c ∷ cs) z f = either (c .holds) (c .number) (firstOf cs) (f .0) (first-check cs z (f .1))
+
+  pub session-numbers : Each P (0 ∷ 25 ∷ 26 ∷ 27 ∷ 28 ∷ 29 ∷ 30 ∷ 31 ∷ 32 ∷ 33 ∷ 34 ∷ []) → (s : Session) (e : Event) → P (judged s e .number)
+  unfolding EachCheck numberOf numberFor
+  session-numbers p s e =
+      subst P (sym (number-is s e))
+      (first-check (checks (s .device) (s .requests) e (matchOf (s .requests) e)) (p .0) (p .1 .0, (p .1 .1 .1 .0, (p .1 .1 .0, (p .1 .1 .1 .1 .0, (p .1 .1 .1 .1 .1 .0, (p .1 .1 .1 .1 .1 .1 .0, (p .1 .1 .1 .1 .1 .1 .1 .0, (p .1 .1 .1 .1 .1 .1 .1 .1 .0, (p .1 .1 .1 .1 .1 .1 .1 .1 .1 .0, (p .1 .1 .1 .1 .1 .1 .1 .1 .1 .1 .0, tt)))))))))))
