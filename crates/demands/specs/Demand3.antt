@@ -211,7 +211,7 @@ part-call from x piece o e =
     }
 
 -- a whole packet that passes the wire checks
-verdict-open : (s : Session) (from : Side) (b : List ℕ) → readNumber (linkOf from s) b ≡ 0
+pub verdict-open : (s : Session) (from : Side) (b : List ℕ) → readNumber (linkOf from s) b ≡ 0
     → verdictOf s from b ≡ record { session = judged s (eventOf from (decode (linkOf from s) b)) .session; number = judged s (eventOf from (decode (linkOf from s) b)) .number; handed = cond (eqb (judged s (eventOf from (decode (linkOf from s) b)) .number) 0) (readOf (linkOf from s) b .handed) none }
 unfolding verdictOf
 verdict-open s from b z = rw z refl

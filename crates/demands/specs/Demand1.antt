@@ -1,0 +1,192 @@
+-- Demand 1: every call gets a number of document 01, takes no more than its piece, and on refusal changes no endpoint, stream or request;
+-- a refused write puts no byte out. That no call strays outside its memory is the checker's own condition on every access.
+-- Assumes nothing.
+use Prim.Native.Nat.{ℕ, _+_, _-_, _≤_}
+use native.Mathlib.Omega.{arith}
+use mathlib.Core.Path.{_≡_, refl, sym, ap, subst, _∙_}
+use mathlib.Core.Bool.{Bool, true, false, cond, not, _&&_, _||_}
+use mathlib.Core.List.{List, [], _∷_, _++_}
+use lib.ListN.{length, take, drop}
+use lib.Seq.{sets, length-sets}
+use lib.Dec.{eqb, ltb}
+use borrow.Author.Tests.{eqb-true, ne-eqb}
+use borrow.Table.Steps.{cases}
+use Rattle.header.specs.declared.Side.{Side}
+use Rattle.header.specs.declared.Link.{Link}
+use Rattle.header.specs.Header.{kindOf, lengthOf, headerNumber}
+use Rattle.kinds.specs.Content.{Content}
+use Rattle.kinds.specs.Number.{wireNumber}
+use Rattle.kinds.specs.Codec.{decode, encode, orNext, readNumber, bodyLength, packetNumber, writeNumber, written, writtenSize}
+use Rattle.events.specs.Event.{eventOf}
+use Rattle.session.specs.declared.Session.{Session}
+use Rattle.session.specs.Session.{linkOf, unfit}
+use Rattle.session.specs.Step.{judged}
+use Rattle.claims.specs.Allowed.{among}
+use Rattle.claims.specs.Steps.{refused}
+use Rattle.roundtrip.specs.Cut.{Cut, more, bad, whole}
+use Rattle.roundtrip.specs.Told.{IsBad, bad-is}
+use Rattle.wire.specs.Wire.{usbredir}
+use Rattle.frame.specs.Frame.{headSize, headNumber, cutAt}
+use Rattle.verdict.specs.Verdict.{Told, stoppedNow, refusedAs, verdictOf}
+use Rattle.gate.specs.Offer.{heldOf, heldAs, heldBytes, heldWhole, isWaiting, barred, Outcome, byCut, offerOf, Whole}
+use Rattle.gate.specs.Write.{shut, writeBy, output, outputSize}
+use Rattle.gate.specs.Laws.{completed-length, whole-here, header-here, Ready, ready, held-few}
+use Rattle.demands.specs.Numbers.{header-numbers, wire-numbers, session-numbers}
+use Rattle.demands.specs.Kept.{whole-number}
+
+-- the numbers of document 01 that a reader call can give, and those that a writer call can
+abbrev pub readNumbers : List ℕ
+readNumbers = 0 ∷ 1 ∷ 2 ∷ 3 ∷ 10 ∷ 11 ∷ 12 ∷ 13 ∷ 20 ∷ 21 ∷ 22 ∷ 23 ∷ 24 ∷ 25 ∷ 26 ∷ 27 ∷ 28 ∷ 29 ∷ 30 ∷ 31 ∷ 32 ∷ 33 ∷ 34 ∷ 41 ∷ 43 ∷ []
+
+abbrev pub writeNumbers : List ℕ
+writeNumbers = 0 ∷ 2 ∷ 3 ∷ 10 ∷ 11 ∷ 12 ∷ 13 ∷ 20 ∷ 21 ∷ 22 ∷ 23 ∷ 24 ∷ 40 ∷ 43 ∷ []
+
+-- what a refusal leaves: hellos, the device with its endpoints and streams, and the requests
+pub record Unchanged (s t : Session) : Type 0 where
+  pub guest : t .guest ≡ s .guest
+  pub host : t .host ≡ s .host
+  pub device : t .device ≡ s .device
+  pub requests : t .requests ≡ s .requests
+
+-- of a reader call
+pub record Answered (s : Session) (hold piece : List ℕ) (o : Outcome) : Type 0 where
+  -- "Any bytes, in any cuts, from either end, get an answer"; "Bad input is refused by a number in document 01."
+  pub number : among readNumbers (o .number) ≡ true
+  pub taken : o .taken ≤ length piece
+  -- the buffer stays as long as it was
+  pub buffer : length (o .hold) ≡ length hold
+  -- "A refused packet changes no endpoint, stream or outstanding request"
+  pub refusal : (o .number ≡ 0 → ⊥) → Unchanged s (o .session)
+
+-- of a writer call
+pub record Put (from : Side) (s : Session) (p : Content) (out : List ℕ) : Type 0 where
+  pub number : among writeNumbers (writeBy from s p (length out)) ≡ true
+  -- "a refused write puts no byte out"
+  pub output : (writeBy from s p (length out) ≡ 0 → ⊥) → output from s p out ≡ out
+  pub size : (writeBy from s p (length out) ≡ 0 → ⊥) → outputSize from s p (length out) ≡ 0
+
+pub record Demand1 : Type 0 where
+  pub read : (from : Side) (s : Session) (hold piece : List ℕ) → Answered s hold piece (offerOf from s hold piece)
+  pub write : (from : Side) (s : Session) (p : Content) (out : List ℕ) → Put from s p out
+
+-- ---- the reader
+
+barred-number : (from : Side) (s : Session) (hold : List ℕ) → among readNumbers (barred from s hold) ≡ true
+unfolding barred
+barred-number from s hold = go (ltb (length hold) 32784) (unfit s || heldWhole from s hold) (s .stopped) (isWaiting (linkOf from s))
+  where
+    go : (a b c d : Bool) → among readNumbers (cond a 41 (cond b 43 (cond c 3 (cond d 2 0)))) ≡ true
+    go true b c d = refl
+    go false true c d = refl
+    go false false true d = refl
+    go false false false true = refl
+    go false false false false = refl
+
+same : (s : Session) → Unchanged s s
+same s = record { guest = refl; host = refl; device = refl; requests = refl }
+
+held-same : (d : Side) (n : ℕ) (s : Session) → Unchanged s (heldAs d n s)
+held-same d n s = record { guest = refl; host = refl; device = refl; requests = refl }
+
+refused-same : (d : Side) (s : Session) (kind : ℕ) → Unchanged s (refusedAs (heldAs d 0 s) kind)
+refused-same d s kind = go (eqb kind 0)
+  where
+    go : (b : Bool) → Unchanged s (cond b (stoppedNow (heldAs d 0 s)) (heldAs d 0 s))
+    go true = record { guest = refl; host = refl; device = refl; requests = refl }
+    go false = held-same d 0 s
+
+-- of a whole packet's verdict
+module _ (d : Side) (s : Session) (b : List ℕ) (n : ℕ) (e : cutAt (linkOf d s) b ≡ whole n) where
+  verdict-number : among readNumbers (verdictOf (heldAs d 0 s) d (take n b) .number) ≡ true
+  unfolding verdictOf
+  verdict-number =
+      cases (eqb (readNumber (linkOf d s) (take n b)) 0)
+      (λ t. rw t (session-numbers (λ m. among readNumbers m ≡ true) (refl, (refl, (refl, (refl, (refl, (refl, (refl, (refl, (refl, (refl, (refl, tt))))))))))) (heldAs d 0 s) (eventOf d (decode (linkOf d s) (take n b)))))
+      (λ t. rw t (rw (whole-number (linkOf d s) b n e) (wire-numbers (λ m. among readNumbers m ≡ true) (refl, (refl, (refl, (refl, (refl, (refl, (refl, tt))))))) (linkOf d s) (decode (linkOf d s) (take n b)))))
+
+  verdict-refusal : (verdictOf (heldAs d 0 s) d (take n b) .number ≡ 0 → ⊥) → Unchanged s (verdictOf (heldAs d 0 s) d (take n b) .session)
+  unfolding verdictOf
+  verdict-refusal =
+      cases (eqb (readNumber (linkOf d s) (take n b)) 0)
+      (λ t. rw t (λ z. subst (Unchanged s) (sym (refused (heldAs d 0 s) (eventOf d (decode (linkOf d s) (take n b))) z)) (held-same d 0 s)))
+      (λ t. rw t (λ z. refused-same d s (kindOf (take n b))))
+
+read-answered : (from : Side) (s : Session) (hold piece : List ℕ) → Answered s hold piece (offerOf from s hold piece)
+unfolding offerOf
+read-answered from s hold piece =
+    cases (eqb (barred from s hold) 0)
+    (λ t. rw t (goes (ready from s hold (eqb-true _ _ t)) (cutAt (linkOf from s) (heldBytes from s hold ++ piece)) refl))
+    (λ t. rw t (record { number = barred-number from s hold; taken = omega arith; buffer = refl; refusal = λ z. same s }))
+  where
+    goes : Ready from s hold → (c : Cut) → cutAt (linkOf from s) (heldBytes from s hold ++ piece) ≡ c → Answered s hold piece (byCut from s hold piece c)
+    goes r more e = record { number = refl; taken = omega arith; buffer = length-sets hold (heldOf from s) piece; refusal = λ z. held-same from (heldOf from s + length piece) s }
+    goes r (bad n) e =
+        let all : List ℕ = heldBytes from s hold ++ piece in
+        let i : IsBad usbredir (linkOf from s) all n = bad-is usbredir (linkOf from s) all n e in
+        let w : Whole hold piece (heldOf from s) (headSize (linkOf from s) all) = header-here (linkOf from s) hold piece (heldOf from s) (r .room) (held-few from s (r .fit)) (r .begun) n e in
+        record {
+          number = subst (λ (m : ℕ). among readNumbers m ≡ true) (i .number) (header-numbers (λ m. among readNumbers m ≡ true) (refl, (refl, (refl, (refl, tt)))) (linkOf from s) (kindOf all) (lengthOf all));
+          taken = omega (arith, w .there);
+          buffer = completed-length hold piece (heldOf from s) (headSize (linkOf from s) all);
+          refusal = λ z. record { guest = refl; host = refl; device = refl; requests = refl };
+        }
+    goes r (whole n) e =
+        let w : Whole hold piece (heldOf from s) n = whole-here (linkOf from s) hold piece (heldOf from s) (r .room) (held-few from s (r .fit)) (r .begun) n e in
+        record {
+          number = verdict-number from s (heldBytes from s hold ++ piece) n e;
+          taken = omega (arith, w .there);
+          buffer = completed-length hold piece (heldOf from s) n;
+          refusal = verdict-refusal from s (heldBytes from s hold ++ piece) n e;
+        }
+
+-- ---- the writer
+
+shut-number : (from : Side) (s : Session) (hello : Bool) → among writeNumbers (shut from s hello) ≡ true
+unfolding shut
+shut-number from s hello = go (unfit s) (s .stopped) (isWaiting (linkOf from s) && not hello)
+  where
+    go : (a b c : Bool) → among writeNumbers (cond a 43 (cond b 3 (cond c 2 0))) ≡ true
+    go true b c = refl
+    go false true c = refl
+    go false false true = refl
+    go false false false = refl
+
+next-number : (P : ℕ → Type 0) (n m : ℕ) → P n → P m → P (orNext n m)
+next-number P n m p q = go (eqb n 0)
+  where
+    go : (b : Bool) → P (cond b m n)
+    go true = q
+    go false = p
+
+write-number : (from : Side) (s : Session) (p : Content) (room : ℕ) → among writeNumbers (writeBy from s p room) ≡ true
+unfolding writeBy writeNumber packetNumber
+write-number from s p room =
+    let l : Link = linkOf from s in
+    let header : ℕ = headerNumber l (p .kind) (bodyLength l p) in
+    let full : Bool = ltb room (length (encode l p)) in
+    next-number L (shut from s (eqb (p .kind) 0)) (orNext (orNext header (wireNumber l p)) (cond full 40 0)) (shut-number from s (eqb (p .kind) 0))
+    (next-number L (orNext header (wireNumber l p)) (cond full 40 0)
+    (next-number L header (wireNumber l p) (header-numbers L (refl, (refl, (refl, (refl, tt)))) l (p .kind) (bodyLength l p)) (wire-numbers L (refl, (refl, (refl, (refl, (refl, (refl, (refl, tt))))))) l p))
+    (room-number full))
+  where
+    L : ℕ → Type 0
+    L m = among writeNumbers m ≡ true
+
+    room-number : (b : Bool) → among writeNumbers (cond b 40 0) ≡ true
+    room-number true = refl
+    room-number false = refl
+
+write-put : (from : Side) (s : Session) (p : Content) (out : List ℕ) → Put from s p out
+unfolding writeBy output outputSize written writtenSize
+write-put from s p out =
+    record {
+      number = write-number from s p (length out);
+      output = λ z. cases (eqb (shut from s (eqb (p .kind) 0)) 0) (λ t. rw t (by-number (λ e. z (rw t e)) .0)) (λ t. rw t refl);
+      size = λ z. cases (eqb (shut from s (eqb (p .kind) 0)) 0) (λ t. rw t (by-number (λ e. z (rw t e)) .1)) (λ t. rw t refl);
+    }
+  where
+    by-number : (writeNumber (linkOf from s) p (length out) ≡ 0 → ⊥) → (written (linkOf from s) p out ≡ out) × (writtenSize (linkOf from s) p (length out) ≡ 0)
+    by-number z = let q = ne-eqb (writeNumber (linkOf from s) p (length out)) 0 z in (rw q refl, rw q refl)
+
+pub demand-1 : Demand1
+demand-1 = record { read = read-answered; write = write-put }

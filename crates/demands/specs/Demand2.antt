@@ -1,0 +1,121 @@
+-- Demand 2, over the whole gate: a reader call answers 0 exactly when a packet becomes whole with its piece that the wire checks and the
+-- session allow; and a reply that passes consumes the one outstanding request that it answers.
+-- Assumes nothing.
+use Prim.Native.Nat.{ℕ}
+use native.Mathlib.Omega.{arith}
+use mathlib.Core.Path.{_≡_, refl, sym, ap, _∙_}
+use mathlib.Core.Bool.{Bool, true, false, cond, true≢false}
+use mathlib.Core.List.{List, [], _∷_, _++_}
+use mathlib.Core.Logic.{_↔_, _⊎_}
+use lib.ListN.{length, take}
+use lib.Dec.{eqb}
+use borrow.Author.Tests.{eqb-true, ne-eqb}
+use borrow.Table.Steps.{cases}
+use Rattle.header.specs.declared.Side.{Side}
+use Rattle.header.specs.declared.Link.{Link}
+use Rattle.kinds.specs.Content.{Content}
+use Rattle.kinds.specs.Number.{wireNumber}
+use Rattle.kinds.specs.Codec.{decode, readNumber}
+use Rattle.requests.specs.Requests.{idsDiffer}
+use Rattle.events.specs.Event.{eventOf}
+use Rattle.session.specs.declared.Session.{Session}
+use Rattle.session.specs.Session.{linkOf}
+use Rattle.session.specs.Step.{judged}
+use Rattle.claims.specs.Allowed.{isReply, inwardOf, Unsolicited, Allowed}
+use Rattle.claims.specs.Exchange.{Consumes, allowed-exactly, reply-consumes}
+use Rattle.roundtrip.specs.Cut.{Cut, more, bad, whole}
+use Rattle.roundtrip.specs.Told.{bad-is}
+use Rattle.wire.specs.Wire.{usbredir}
+use Rattle.frame.specs.Frame.{cutAt}
+use Rattle.verdict.specs.Verdict.{Told, verdictOf}
+use Rattle.gate.specs.Offer.{heldOf, heldAs, heldBytes, barred, packetTaken, byCut, offerOf}
+use Rattle.gate.specs.Laws.{Ready, ready, fit-is}
+use Rattle.demands.specs.Kept.{whole-number}
+use Rattle.demands.specs.Demand3.{offer-barred, offer-open, verdict-open}
+
+-- the packet that is whole with the piece: the first n of the held bytes and the piece behind them
+abbrev pub packetAt : Side → Session → List ℕ → List ℕ → ℕ → Content
+packetAt from s hold piece n = decode (linkOf from s) (take n (heldBytes from s hold ++ piece))
+
+-- "A packet passes exactly when protocol version 0.7, as document 01 narrows it, allows it"
+pub record Passes (from : Side) (s : Session) (hold piece : List ℕ) : Type 0 where
+  -- the call can go on: 41, 43, 3 and 2 do not hold
+  pub ready : Ready from s hold
+  -- a packet is whole, and 10 to 12 do not refuse its header
+  pub size : ℕ
+  pub whole : cutAt (linkOf from s) (heldBytes from s hold ++ piece) ≡ whole size
+  -- "form, shared capabilities, direction": 13 and 20 to 24
+  pub form : wireNumber (linkOf from s) (packetAt from s hold piece size) ≡ 0
+  -- "device and endpoint state, and for a reply an outstanding request": 25 to 34
+  pub allowed : Allowed s from (packetAt from s hold piece size)
+
+-- held counts are not the session checks' concern
+allowed-as : (d from : Side) (n : ℕ) (s : Session) (p : Content) → Allowed s from p → Allowed (heldAs d n s) from p
+allowed-as d from n s p a =
+    record { device = a .device; ack = a .ack; connect = a .connect; interfaces = a .interfaces; acknowledgement = a .acknowledgement; type = a .type; types = a .types; settled = a .settled; stream = a .stream; unused = a .unused; room = a .room; reply = a .reply }
+
+as-allowed : (d from : Side) (n : ℕ) (s : Session) (p : Content) → Allowed (heldAs d n s) from p → Allowed s from p
+as-allowed d from n s p a =
+    record { device = a .device; ack = a .ack; connect = a .connect; interfaces = a .interfaces; acknowledgement = a .acknowledgement; type = a .type; types = a .types; settled = a .settled; stream = a .stream; unused = a .unused; room = a .room; reply = a .reply }
+
+module _ (from : Side) (s : Session) (hold piece : List ℕ) where
+  abbrev all : List ℕ
+  all = heldBytes from s hold ++ piece
+
+  -- of a call that can go on with a whole packet
+  module _ (r : Ready from s hold) (n : ℕ) (e : cutAt (linkOf from s) all ≡ whole n) where
+    abbrev p : Content
+    p = packetAt from s hold piece n
+
+    is-verdict : offerOf from s hold piece ≡ packetTaken from s hold piece (verdictOf (heldAs from 0 s) from (take n all)) n
+    is-verdict = offer-open from s hold piece r ∙ ap (byCut from s hold piece) e
+
+    ids : idsDiffer (s .requests .places) ≡ true
+    ids = fit-is s (r .fit) .ids
+
+    judged-zero : wireNumber (linkOf from s) p ≡ 0 → offerOf from s hold piece .number ≡ judged (heldAs from 0 s) (eventOf from p) .number
+    judged-zero w =
+        ap (λ o. o .number) is-verdict
+        ∙ ap (λ (v : Told). v .number) (verdict-open (heldAs from 0 s) from (take n all) (whole-number (linkOf from s) all n e ∙ w))
+
+    whole-passes : offerOf from s hold piece .number ≡ 0 → Passes from s hold piece
+    unfolding verdictOf
+    whole-passes z =
+        let v : verdictOf (heldAs from 0 s) from (take n all) .number ≡ 0 = sym (ap (λ o. o .number) is-verdict) ∙ z in
+        cases (eqb (readNumber (linkOf from s) (take n all)) 0)
+        (λ t.
+          let w : wireNumber (linkOf from s) p ≡ 0 = sym (whole-number (linkOf from s) all n e) ∙ eqb-true _ _ t in
+          record { ready = r; size = n; whole = e; form = w; allowed = as-allowed from from 0 s p (allowed-exactly (heldAs from 0 s) from p w ids .0 (sym (judged-zero w) ∙ z)) })
+        (λ t. absurd (true≢false (sym (ap (λ (m : ℕ). eqb m 0) (rw t at v)) ∙ t)))
+
+  passes : offerOf from s hold piece .number ≡ 0 → Passes from s hold piece
+  passes z = cases (eqb (barred from s hold) 0) (λ t. goes (ready from s hold (eqb-true _ _ t)) (cutAt (linkOf from s) all) refl) (λ t. absurd (shut t))
+    where
+      shut : eqb (barred from s hold) 0 ≡ false → ⊥
+      shut t =
+          let nz : barred from s hold ≡ 0 → ⊥ = λ b. true≢false (sym (ap (λ (m : ℕ). eqb m 0) b) ∙ t) in
+          nz (sym (ap (λ o. o .number) (offer-barred from s hold piece nz)) ∙ z)
+
+      goes : Ready from s hold → (c : Cut) → cutAt (linkOf from s) all ≡ c → Passes from s hold piece
+      goes r more e = let y : _≡_ {A = ℕ} 1 0 = sym (ap (λ o. o .number) (offer-open from s hold piece r ∙ ap (byCut from s hold piece) e)) ∙ z in absurd (omega arith)
+      goes r (bad n) e = absurd (bad-is usbredir (linkOf from s) all n e .refused (sym (ap (λ o. o .number) (offer-open from s hold piece r ∙ ap (byCut from s hold piece) e)) ∙ z))
+      goes r (whole n) e = whole-passes r n e z
+
+  passing : Passes from s hold piece → offerOf from s hold piece .number ≡ 0
+  passing h =
+      judged-zero (h .ready) (h .size) (h .whole) (h .form)
+      ∙ allowed-exactly (heldAs from 0 s) from (packetAt from s hold piece (h .size)) (h .form) (ids (h .ready) (h .size) (h .whole)) .1
+      (allowed-as from from 0 s (packetAt from s hold piece (h .size)) (h .allowed))
+
+  pub demand-2 : (offerOf from s hold piece .number ≡ 0) ↔ Passes from s hold piece
+  demand-2 = (passes, passing)
+
+  -- "for a reply an outstanding request which it consumes": the reply frees the place of the one live request that it answers; an
+  -- unsolicited status frees none
+  pub reply-in-gate : (h : Passes from s hold piece) → isReply from (packetAt from s hold piece (h .size) .kind) (inwardOf (packetAt from s hold piece (h .size))) ≡ true
+      → ((i : ℕ) × Consumes (heldAs from 0 s) (packetAt from s hold piece (h .size)) (offerOf from s hold piece .session) i)
+      ⊎ (Unsolicited (s .requests) (packetAt from s hold piece (h .size)) × (offerOf from s hold piece .session .requests ≡ s .requests))
+  reply-in-gate h r =
+      let q = packetAt from s hold piece (h .size) in
+      let v = is-verdict (h .ready) (h .size) (h .whole) ∙ ap (λ (t : Told). packetTaken from s hold piece t (h .size)) (verdict-open (heldAs from 0 s) from (take (h .size) all) (whole-number (linkOf from s) all (h .size) (h .whole) ∙ h .form)) in
+      rw v (reply-consumes (heldAs from 0 s) from q (h .form) r (ids (h .ready) (h .size) (h .whole)) (sym (judged-zero (h .ready) (h .size) (h .whole) (h .form)) ∙ passing h))
