@@ -84,8 +84,8 @@ module _ (from : Side) (s : Session) (hold piece : List ℕ) where
         let v : verdictOf (heldAs from 0 s) from (take n all) .number ≡ 0 = sym (ap (λ o. o .number) is-verdict) ∙ z in
         cases (eqb (readNumber (linkOf from s) (take n all)) 0)
         (λ t.
-          let w : wireNumber (linkOf from s) p ≡ 0 = sym (whole-number (linkOf from s) all n e) ∙ eqb-true _ _ t in
-          record { ready = r; size = n; whole = e; form = w; allowed = as-allowed from from 0 s p (allowed-exactly (heldAs from 0 s) from p w ids .0 (sym (judged-zero w) ∙ z)) })
+        let w : wireNumber (linkOf from s) p ≡ 0 = sym (whole-number (linkOf from s) all n e) ∙ eqb-true _ _ t in
+        record { ready = r; size = n; whole = e; form = w; allowed = as-allowed from from 0 s p (allowed-exactly (heldAs from 0 s) from p w ids .0 (sym (judged-zero w) ∙ z)) })
         (λ t. absurd (true≢false (sym (ap (λ (m : ℕ). eqb m 0) (rw t at v)) ∙ t)))
 
   passes : offerOf from s hold piece .number ≡ 0 → Passes from s hold piece

@@ -27,7 +27,7 @@ use Rattle.session.specs.Session.{linkOf, unfit}
 use Rattle.session.specs.Step.{judged}
 use Rattle.claims.specs.Kept.{Sized, kept-ids, kept-control, event-control, kept-lengths, kept-hellos, kept-plain}
 use Rattle.roundtrip.specs.Cut.{Cut, more, bad, whole}
-use Rattle.roundtrip.specs.Told.{IsWhole, whole-is, whole-fits}
+use Rattle.roundtrip.specs.Told.{IsWhole, whole-is}
 use Rattle.wire.specs.Wire.{usbredir, laws}
 use Rattle.frame.specs.Frame.{headSize, headNumber, cutAt}
 use Rattle.verdict.specs.Verdict.{stoppedNow, refusedAs, verdictOf}
@@ -38,6 +38,27 @@ abbrev pub opposite : Side → Side
 opposite Guest = Host
 opposite Host = Guest
 
+-- ---- a header is decided by its own bytes
+
+-- two lists of bytes begin with the same header
+pub record SameHeader (l : Link) (a b : List ℕ) : Type 0 where
+  pub size : headSize l b ≡ headSize l a
+  pub number : headNumber l b ≡ headNumber l a
+  pub says : lengthOf b ≡ lengthOf a
+
+pub header-behind : (l : Link) (a r : List ℕ) → headSize l a ≤ length a → SameHeader l a (a ++ r)
+header-behind l a r h =
+    record { size = laws .same-width l a r (omega (arith, laws .wide l a)); number = laws .same-number l a r h; says = laws .same-length l a r h }
+
+pub header-front : (l : Link) (a : List ℕ) (n : ℕ) → headSize l a ≤ n → n ≤ length a → SameHeader l a (take n a)
+header-front l a n h g =
+    let t : List ℕ = take n a in
+    let j : t ++ drop n a ≡ a = take-append-drop n a in
+    let c : length t ≡ n = length-take-le n a g in
+    let s : headSize l a ≡ headSize l t = ap (headSize l) (sym j) ∙ laws .same-width l t (drop n a) (omega (arith, laws .wide l a)) in
+    let f = header-behind l t (drop n a) (omega arith) in
+    record { size = sym s; number = sym (f .number) ∙ ap (headNumber l) j; says = sym (f .says) ∙ ap lengthOf j }
+
 -- ---- the wire number of a whole packet
 
 -- "10 to 24 are the wire checks": bytes that are a whole packet get the number of what they say
@@ -46,15 +67,11 @@ unfolding readNumber
 whole-number l b n e =
     let w : IsWhole usbredir l b n = whole-is usbredir l b n e in
     let t : List ℕ = take n b in
-    let j : t ++ drop n b ≡ b = take-append-drop n b in
+    let f = header-front l b n (omega (arith, w .size)) (w .there) in
     let c : length t ≡ n = length-take-le n b (w .there) in
-    let long : 12 ≤ length t = omega (arith, whole-fits usbredir laws l b n e .0) in
-    let s : headSize l b ≡ headSize l t = ap (headSize l) (sym j) ∙ laws .same-width l t (drop n b) long in
-    let h : headSize l t ≤ length t = omega (arith, w .size) in
-    let m : headNumber l t ≡ 0 = sym (laws .same-number l t (drop n b) h) ∙ ap (headNumber l) j ∙ w .header in
-    let d : lengthOf t ≡ lengthOf b = sym (laws .same-length l t (drop n b) h) ∙ ap lengthOf j in
-    let z : length t ≡ headSize l t + lengthOf t = omega (arith, w .size) in
-    simp (le-ltb (length t) (headSize l t) h, m, eq-eqb (length t) (headSize l t + lengthOf t) z)
+    let h : headSize l t ≤ length t = omega (arith, w .size, f .size) in
+    let z : length t ≡ headSize l t + lengthOf t = omega (arith, w .size, f .size, f .says) in
+    simp (le-ltb (length t) (headSize l t) h, f .number ∙ w .header, eq-eqb (length t) (headSize l t + lengthOf t) z)
 
 -- ---- what is kept
 

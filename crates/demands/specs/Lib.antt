@@ -3,3 +3,4 @@ pub mod Kept
 pub mod Demand1
 pub mod Demand2
 pub mod Demand3
+pub mod Cuts

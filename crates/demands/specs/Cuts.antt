@@ -1,0 +1,555 @@
+-- Cuts don't matter: two lists of reader calls in which each end's bytes are the same and packets become whole in the same order give
+-- the same answers other than 1, the same packets and the same session.
+-- Both lists are held against `play`, which knows no pieces: it is given each end's bytes and the order, and takes packet after packet.
+-- Assumes nothing.
+use Prim.Native.Nat.{ℕ, _+_, _-_, _≤_, _<_}
+use native.Mathlib.Omega.{arith}
+use mathlib.Core.Path.{_≡_, refl, sym, ap, subst, _∙_}
+use mathlib.Core.Bool.{Bool, true, false, cond, not, _||_, true≢false}
+use mathlib.Core.List.{List, [], _∷_, _++_, append-assoc, append-nil}
+use mathlib.Core.Option.{Option, none, some}
+use mathlib.Core.Logic.{_⊎_, inl, inr}
+use lib.ListN.{length, take, drop, length-append, take-append-drop}
+use lib.Seq.{sets, length-sets, length-take-le, take-all, take-at, take-length, drop-append-seam}
+use lib.Dec.{eqb, ltb}
+use borrow.Author.Tests.{eqb-true, ne-eqb, le-ltb}
+use borrow.Table.Steps.{cases}
+use Rattle.header.specs.declared.Side.{Side}
+use Rattle.header.specs.declared.Side.the-variants.{Guest, Host}
+use Rattle.header.specs.declared.Link.{Link}
+use Rattle.header.specs.Header.{kindOf, lengthOf}
+use Rattle.kinds.specs.Codec.{decode, readNumber}
+use Rattle.decoder.specs.Reading.{Handed, readOf}
+use Rattle.events.specs.declared.Class.{Class}
+use Rattle.events.specs.declared.Class.the-variants.{Hello as HelloClass, Connect, Interfaces, Endpoints, Disconnect, Reset, Ack, Cancel, Filter, StartRequest, PlainRequest, StreamStatus, PlainReply, StreamData}
+use Rattle.events.specs.declared.Event.{Event}
+use Rattle.events.specs.Event.{eventOf}
+use Rattle.checks.specs.declared.Match.{Match}
+use Rattle.checks.specs.Checks.{matchOf, numberFor}
+use Rattle.session.specs.declared.Held.{Held}
+use Rattle.session.specs.declared.Session.{Session}
+use Rattle.session.specs.declared.Judged.{Judged}
+use Rattle.session.specs.Session.{linkOf, unfit}
+use Rattle.session.specs.Step.{deviceAfter, requestsAfter, nextFor, judged}
+use Rattle.claims.specs.Allowed.{among}
+use Rattle.claims.specs.Kept.{kept-plain}
+use Rattle.roundtrip.specs.Cut.{Cut, more, bad, whole, cutOf}
+use Rattle.roundtrip.specs.Told.{IsWhole, whole-is, IsBad, bad-is, whole-fits}
+use Rattle.wire.specs.Wire.{usbredir, laws}
+use Rattle.frame.specs.Frame.{headSize, headNumber, cutAt, completed}
+use Rattle.verdict.specs.Verdict.{Told, stoppedNow, refusedAs, verdictOf}
+use Rattle.gate.specs.Offer.{heldOf, heldAs, heldBytes, isWaiting, heldWhole, barred, Outcome, unmoved, kept, headerRefused, packetTaken, byCut, offerOf, Whole}
+use Rattle.gate.specs.Laws.{front-is, completed-front, completed-length, more-few, whole-here, header-here, Ready, ready, held-few}
+use Rattle.demands.specs.Numbers.{header-numbers, wire-numbers, session-numbers}
+use Rattle.demands.specs.Demand1.{demand-1}
+use Rattle.demands.specs.Kept.{whole-number, SameHeader, header-behind, header-front}
+
+-- ---- runs of reader calls
+
+-- of each side, something
+abbrev pub of-side : {A : Type 0} → Side → A → (Side → A) → Side → A
+of-side Guest a f Guest = a
+of-side Guest a f Host = f Host
+of-side Host a f Guest = f Guest
+of-side Host a f Host = a
+
+-- the session and each side's holding buffer
+pub record Both : Type 0 where
+  pub session : Session
+  pub hold : Side → List ℕ
+
+pub record Call : Type 0 where
+  pub from : Side
+  pub piece : List ℕ
+
+abbrev pub answerTo : Both → Call → Outcome
+answerTo x c = offerOf (c .from) (x .session) (x .hold (c .from)) (c .piece)
+
+abbrev pub next : Both → Call → Both
+next x c = record { session = answerTo x c .session; hold = of-side (c .from) (answerTo x c .hold) (x .hold) }
+
+unfoldable pub final : Both → List Call → Both
+final x [] = x
+final x (c ∷ cs) = final (next x c) cs
+
+-- an answer that ends a packet or stops at its header: all but 1, and 2, 3, 41, 43, which take nothing
+abbrev pub ends : ℕ → Bool
+ends n = not (among (1 ∷ 2 ∷ 3 ∷ 41 ∷ 43 ∷ []) n)
+
+pub record Ended : Type 0 where
+  pub from : Side
+  pub number : ℕ
+  pub handed : Option Handed
+
+abbrev pub endedBy : Side → ℕ → Option Handed → List Ended
+endedBy d n h = cond (ends n) (record { from = d; number = n; handed = h } ∷ []) []
+
+-- the answers of a run that end a packet, in order
+unfoldable pub endings : Both → List Call → List Ended
+endings x [] = []
+endings x (c ∷ cs) = endedBy (c .from) (answerTo x c .number) (answerTo x c .handed) ++ endings (next x c) cs
+
+abbrev pub sides : List Ended → List Side
+sides [] = []
+sides (e ∷ es) = e .from ∷ sides es
+
+-- the bytes of a side that a run took
+unfoldable pub bytesTaken : Side → Both → List Call → List ℕ
+bytesTaken d x [] = []
+bytesTaken d x (c ∷ cs) = of-side (c .from) (take (answerTo x c .taken) (c .piece)) (λ e. []) d ++ bytesTaken d (next x c) cs
+
+-- ---- the same without pieces
+
+-- what the next packet of a side's bytes b gives: the answer that ends it, the session after it, and how many bytes it has
+pub record Taken : Type 0 where
+  pub ended : List Ended
+  pub session : Session
+  pub size : ℕ
+
+abbrev pub takenAs : Side → Session → List ℕ → Cut → Taken
+takenAs d s b more = record { ended = []; session = s; size = 0 }
+takenAs d s b (bad n) = record { ended = record { from = d; number = n; handed = none } ∷ []; session = stoppedNow s; size = headSize (linkOf d s) b }
+takenAs d s b (whole n) =
+    record { ended = record { from = d; number = verdictOf s d (take n b) .number; handed = verdictOf s d (take n b) .handed } ∷ []; session = verdictOf s d (take n b) .session; size = n }
+
+abbrev pub taking : Side → Session → List ℕ → Taken
+taking d s b = takenAs d s b (cutAt (linkOf d s) b)
+
+pub record Played : Type 0 where
+  pub ended : List Ended
+  pub session : Session
+  pub rest : Side → List ℕ
+
+abbrev pub behind : List Ended → Played → Played
+behind es p = record { ended = es ++ p .ended; session = p .session; rest = p .rest }
+
+-- given the sides in whose bytes the next packets end, in order, a session with nothing held, and each side's bytes
+unfoldable pub play : List Side → Session → (Side → List ℕ) → Played
+play [] s b = record { ended = []; session = s; rest = b }
+play (d ∷ ds) s b = behind (taking d s (b d) .ended) (play ds (taking d s (b d) .session) (of-side d (drop (taking d s (b d) .size) (b d)) b))
+
+-- ---- a session with nothing held
+
+abbrev pub bare : Session → Session
+bare s = heldAs Guest 0 (heldAs Host 0 s)
+
+bare-held : (d : Side) (n : ℕ) (s : Session) → bare (heldAs d n s) ≡ bare s
+bare-held Guest n s = refl
+bare-held Host n s = refl
+
+device-as : (d : Side) (n : ℕ) (s : Session) (e : Event) (m : Match) (c : Class) → deviceAfter c (heldAs d n s) e m ≡ deviceAfter c s e m
+device-as d n s e m HelloClass = refl
+device-as d n s e m Connect = refl
+device-as d n s e m Interfaces = refl
+device-as d n s e m Endpoints = refl
+device-as d n s e m Disconnect = refl
+device-as d n s e m Reset = refl
+device-as d n s e m Ack = refl
+device-as d n s e m Cancel = refl
+device-as d n s e m Filter = refl
+device-as d n s e m StartRequest = refl
+device-as d n s e m PlainRequest = refl
+device-as d n s e m StreamStatus = refl
+device-as d n s e m PlainReply = refl
+device-as d n s e m StreamData = refl
+
+requests-as : (d : Side) (n : ℕ) (s : Session) (e : Event) (m : Match) (c : Class) → requestsAfter c (heldAs d n s) e m ≡ requestsAfter c s e m
+requests-as d n s e m HelloClass = refl
+requests-as d n s e m Connect = refl
+requests-as d n s e m Interfaces = refl
+requests-as d n s e m Endpoints = refl
+requests-as d n s e m Disconnect = refl
+requests-as d n s e m Reset = refl
+requests-as d n s e m Ack = refl
+requests-as d n s e m Cancel = refl
+requests-as d n s e m Filter = refl
+requests-as d n s e m StartRequest = refl
+requests-as d n s e m PlainRequest = refl
+requests-as d n s e m StreamStatus = refl
+requests-as d n s e m PlainReply = refl
+requests-as d n s e m StreamData = refl
+
+next-as : (d : Side) (n : ℕ) (s : Session) (e : Event) (m : Match) → nextFor (heldAs d n s) e m ≡ heldAs d n (nextFor s e m)
+unfolding nextFor
+next-as d n s e m =
+    let a = device-as d n s e m (e .class) in
+    let b = requests-as d n s e m (e .class) in
+    λ i. record { guest = nextFor s e m .guest; host = nextFor s e m .host; stopped = s .stopped; held = heldAs d n s .held; device = a i; requests = b i }
+
+-- the judge does not look at what is held, and leaves it
+judged-as : (d : Side) (n : ℕ) (s : Session) (e : Event) → judged (heldAs d n s) e ≡ record { session = heldAs d n (judged s e .session); number = judged s e .number }
+unfolding judged
+judged-as d n s e =
+    cases (eqb (numberFor (s .device) (s .requests) e (matchOf (s .requests) e)) 0)
+    (λ t. rw t (ap (λ (u : Session). record { session = u; number = 0 }) (next-as d n s e (matchOf (s .requests) e))))
+    (λ t. rw t refl)
+
+refused-as : (d : Side) (n : ℕ) (s : Session) (kind : ℕ) → refusedAs (heldAs d n s) kind ≡ heldAs d n (refusedAs s kind)
+refused-as d n s kind = go (eqb kind 0)
+  where
+    go : (b : Bool) → cond b (stoppedNow (heldAs d n s)) (heldAs d n s) ≡ heldAs d n (cond b (stoppedNow s) s)
+    go true = refl
+    go false = refl
+
+verdict-as : (d : Side) (n : ℕ) (s : Session) (from : Side) (b : List ℕ)
+    → verdictOf (heldAs d n s) from b ≡ record { session = heldAs d n (verdictOf s from b .session); number = verdictOf s from b .number; handed = verdictOf s from b .handed }
+unfolding verdictOf
+verdict-as d n s from b =
+    let j = judged-as d n s (eventOf from (decode (linkOf from s) b)) in
+    cases (eqb (readNumber (linkOf from s) b) 0)
+    (λ t. rw t (ap (λ (q : Judged). record { session = q .session; number = q .number; handed = cond (eqb (q .number) 0) (readOf (linkOf from s) b .handed) none }) j))
+    (λ t. rw t (ap (λ (u : Session). record { session = u; number = readNumber (linkOf from s) b; handed = none }) (refused-as d n s (kindOf b))))
+
+-- so of a session with nothing held the verdict is the same, but for what is held
+verdict-bare : (s : Session) (from : Side) (b : List ℕ)
+    → verdictOf (bare s) from b ≡ record { session = bare (verdictOf s from b .session); number = verdictOf s from b .number; handed = verdictOf s from b .handed }
+verdict-bare s from b =
+    verdict-as Guest 0 (heldAs Host 0 s) from b
+    ∙ ap (λ (t : Told). record { session = heldAs Guest 0 (t .session); number = t .number; handed = t .handed }) (verdict-as Host 0 s from b)
+
+-- ---- bytes behind a packet change nothing
+
+module _ (l : Link) (a r : List ℕ) (n : ℕ) where
+  whole-again : cutAt l a ≡ whole n → cutAt l (take n a ++ r) ≡ whole n
+  unfolding cutOf
+  whole-again e =
+      let w : IsWhole usbredir l a n = whole-is usbredir l a n e in
+      let t : List ℕ = take n a in
+      let b : List ℕ = t ++ r in
+      let c : length t ≡ n = length-take-le n a (w .there) in
+      let f = header-front l a n (omega (arith, w .size)) (w .there) in
+      let g = header-behind l t r (omega (arith, w .size, f .size)) in
+      let z : headNumber l b ≡ 0 = g .number ∙ f .number ∙ w .header in
+      let m : headSize l b + lengthOf b ≡ n = omega (arith, w .size, f .size, f .says, g .size, g .says) in
+      let h : headSize l b ≤ length b = omega (arith, length-append t r) in
+      let k : n ≤ length b = omega (arith, length-append t r) in
+      simp (le-ltb (length b) (headSize l b) h, z, m, le-ltb (length b) n k)
+
+  bad-again : cutAt l a ≡ bad n → (cutAt l (take (headSize l a) a ++ r) ≡ bad n) × (headSize l (take (headSize l a) a ++ r) ≡ headSize l a)
+  unfolding cutOf
+  bad-again e =
+      let w : IsBad usbredir l a n = bad-is usbredir l a n e in
+      let t : List ℕ = take (headSize l a) a in
+      let b : List ℕ = t ++ r in
+      let c : length t ≡ headSize l a = length-take-le (headSize l a) a (w .there) in
+      let f = header-front l a (headSize l a) (omega arith) (w .there) in
+      let g = header-behind l t r (omega (arith, f .size)) in
+      let q : headNumber l b ≡ n = g .number ∙ f .number ∙ w .number in
+      let h : headSize l b ≤ length b = omega (arith, length-append t r, f .size, g .size) in
+      (simp (le-ltb (length b) (headSize l b) h, q, ne-eqb n 0 (w .refused)), g .size ∙ f .size)
+
+-- ---- one call
+
+-- a piece behind what is held
+kept-front : (hold piece : List ℕ) (held : ℕ) → held + length piece ≤ length hold → take (held + length piece) (sets hold held piece) ≡ take held hold ++ piece
+kept-front hold piece held h =
+    let w : Whole hold piece held (held + length piece) = record { room = h; begun = omega arith; there = omega arith } in
+    let m : held + length piece - held ≡ length piece = omega arith in
+    subst (λ (p : List ℕ). take (held + length piece) (sets hold held p) ≡ take held hold ++ p) (ap (λ (k : ℕ). take k piece) m ∙ take-length piece)
+    (completed-front hold piece held (held + length piece) w)
+
+-- a verdict's number ends a packet
+verdict-ends : (d : Side) (s : Session) (b : List ℕ) (n : ℕ) → cutAt (linkOf d s) b ≡ whole n → ends (verdictOf (heldAs d 0 s) d (take n b) .number) ≡ true
+unfolding verdictOf
+verdict-ends d s b n e =
+    cases (eqb (readNumber (linkOf d s) (take n b)) 0)
+    (λ t. rw t (session-numbers (λ m. ends m ≡ true) (refl, (refl, (refl, (refl, (refl, (refl, (refl, (refl, (refl, (refl, (refl, tt))))))))))) (heldAs d 0 s) (eventOf d (decode (linkOf d s) (take n b)))))
+    (λ t. rw t (rw (whole-number (linkOf d s) b n e) (wire-numbers (λ m. ends m ≡ true) (refl, (refl, (refl, (refl, (refl, (refl, (refl, tt))))))) (linkOf d s) (decode (linkOf d s) (take n b)))))
+
+
+-- buffers that 41 allows, and counts that 43 allows
+pub record Fits (x : Both) : Type 0 where
+  pub room : (d : Side) → 32784 ≤ length (x .hold d)
+  pub few : (d : Side) → heldOf d (x .session) ≤ 32783
+
+abbrev pub heldBy : Both → Side → List ℕ
+heldBy x d = heldBytes d (x .session) (x .hold d)
+
+-- what an answer leaves held
+abbrev heldAfter : Both → Side → Outcome → Side → List ℕ
+heldAfter x d o e = heldBytes e (o .session) (of-side d (o .hold) (x .hold) e)
+
+-- a call that ends no packet: what it took stands behind what was held
+record Quiet (x : Both) (d : Side) (piece : List ℕ) (o : Outcome) : Type 0 where
+  silent : ends (o .number) ≡ false
+  same : bare (o .session) ≡ bare (x .session)
+  held : (e : Side) → heldAfter x d o e ≡ heldBy x e ++ of-side d (take (o .taken) piece) (λ i. []) e
+
+-- a call that ends one: its bytes are those held and those taken, and whatever follows them, they give what `taking` gives
+record Ending (x : Both) (d : Side) (piece : List ℕ) (o : Outcome) : Type 0 where
+  heard : ends (o .number) ≡ true
+  gives : (r : List ℕ) → taking d (bare (x .session)) (heldBy x d ++ take (o .taken) piece ++ r)
+      ≡ record { ended = record { from = d; number = o .number; handed = o .handed } ∷ []; session = bare (o .session); size = length (heldBy x d ++ take (o .taken) piece) }
+  held : (e : Side) → heldAfter x d o e ≡ of-side d [] (heldBy x) e
+
+-- a call that takes nothing
+unmoved-quiet : (x : Both) (d : Side) (piece : List ℕ) (n : ℕ) → ends n ≡ false → Quiet x d piece (unmoved (x .session) (x .hold d) n)
+unmoved-quiet x d piece n z = record { silent = z; same = refl; held = same d }
+  where
+    same : (d e : Side) → heldAfter x d (unmoved (x .session) (x .hold d) n) e ≡ heldBy x e ++ of-side d [] (λ i. []) e
+    same Guest Guest = sym (append-nil (heldBy x Guest))
+    same Guest Host = sym (append-nil (heldBy x Host))
+    same Host Guest = sym (append-nil (heldBy x Guest))
+    same Host Host = sym (append-nil (heldBy x Host))
+
+-- a piece that is kept
+kept-quiet : (x : Both) (d : Side) (piece : List ℕ) → heldOf d (x .session) + length piece ≤ length (x .hold d) → Quiet x d piece (kept d (x .session) (x .hold d) piece)
+kept-quiet x d piece h = record { silent = refl; same = bare-held d (heldOf d (x .session) + length piece) (x .session); held = behind-held d h }
+  where
+    behind-held : (d : Side) → heldOf d (x .session) + length piece ≤ length (x .hold d) → (e : Side)
+        → heldAfter x d (kept d (x .session) (x .hold d) piece) e ≡ heldBy x e ++ of-side d (take (length piece) piece) (λ i. []) e
+    behind-held Guest h Guest = kept-front (x .hold Guest) piece (x .session .held .guest) h ∙ ap (λ (p : List ℕ). heldBy x Guest ++ p) (sym (take-length piece))
+    behind-held Guest h Host = sym (append-nil (heldBy x Host))
+    behind-held Host h Guest = sym (append-nil (heldBy x Guest))
+    behind-held Host h Host = kept-front (x .hold Host) piece (x .session .held .host) h ∙ ap (λ (p : List ℕ). heldBy x Host ++ p) (sym (take-length piece))
+
+-- what the verdict leaves held
+verdict-held : (s : Session) (from : Side) (b : List ℕ) → verdictOf s from b .session .held ≡ s .held
+unfolding verdictOf
+verdict-held s from b =
+    cases (eqb (readNumber (linkOf from s) b) 0)
+    (λ t. rw t (kept-plain s (eventOf from (decode (linkOf from s) b)) .held))
+    (λ t. rw t (refused-held (eqb (kindOf b) 0)))
+  where
+    refused-held : (c : Bool) → cond c (stoppedNow s) s .held ≡ s .held
+    refused-held true = refl
+    refused-held false = refl
+
+-- with nothing held in the direction, and all as it was in the other
+held-zero : (x : Both) (d : Side) (s : Session) (hold : List ℕ) → s .held ≡ heldAs d 0 (x .session) .held → (e : Side) → heldBytes e s (of-side d hold (x .hold) e) ≡ of-side d [] (heldBy x) e
+held-zero x Guest s hold q Guest = λ i. take (q i .guest) hold
+held-zero x Guest s hold q Host = λ i. take (q i .host) (x .hold Host)
+held-zero x Host s hold q Guest = λ i. take (q i .guest) (x .hold Guest)
+held-zero x Host s hold q Host = λ i. take (q i .host) hold
+
+bare-stopped : (d : Side) (s : Session) → bare (stoppedNow (heldAs d 0 s)) ≡ stoppedNow (bare s)
+bare-stopped Guest s = refl
+bare-stopped Host s = refl
+
+module _ (x : Both) (d : Side) (piece : List ℕ) (n : ℕ) where
+  abbrev s : Session
+  s = x .session
+
+  abbrev all : List ℕ
+  all = heldBy x d ++ piece
+
+  -- a header that is refused
+  header-ending : Whole (x .hold d) piece (heldOf d s) (headSize (linkOf d s) all) → cutAt (linkOf d s) all ≡ bad n → Ending x d piece (headerRefused d s (x .hold d) piece n (headSize (linkOf d s) all))
+  header-ending w e =
+      let l : Link = linkOf d s in
+      let f : take (headSize l all) all ≡ heldBy x d ++ take (headSize l all - heldOf d s) piece = front-is (x .hold d) piece (heldOf d s) (headSize l all) w in
+      let i : IsBad usbredir l all n = bad-is usbredir l all n e in
+      let c : length (take (headSize l all) all) ≡ headSize l all = length-take-le (headSize l all) all (i .there) in
+      record {
+        heard = subst (λ (m : ℕ). ends m ≡ true) (i .number) (header-numbers (λ m. ends m ≡ true) (refl, (refl, (refl, (refl, tt)))) l (kindOf all) (lengthOf all));
+        gives = λ r.
+            let a = bad-again l all r n e in
+            rw (← f)
+            (ap (takenAs d (bare s) (take (headSize l all) all ++ r)) (a .0)
+            ∙ (λ i. record { ended = record { from = d; number = n; handed = none } ∷ []; session = sym (bare-stopped d s) i; size = (a .1 ∙ sym c) i }));
+        held = held-zero x d (stoppedNow (heldAs d 0 s)) (completed (x .hold d) (heldOf d s) piece (headSize l all)) refl;
+      }
+
+  -- a whole packet
+  packet-ending : Whole (x .hold d) piece (heldOf d s) n → cutAt (linkOf d s) all ≡ whole n → Ending x d piece (packetTaken d s (x .hold d) piece (verdictOf (heldAs d 0 s) d (take n all)) n)
+  packet-ending w e =
+      let l : Link = linkOf d s in
+      let t : List ℕ = take n all in
+      let f : t ≡ heldBy x d ++ take (n - heldOf d s) piece = front-is (x .hold d) piece (heldOf d s) n w in
+      let i : IsWhole usbredir l all n = whole-is usbredir l all n e in
+      let c : length t ≡ n = length-take-le n all (i .there) in
+      let v : Told = verdictOf (heldAs d 0 s) d t in
+      let q : verdictOf (bare s) d t ≡ record { session = bare (v .session); number = v .number; handed = v .handed } =
+      ap (λ (u : Session). verdictOf u d t) (sym (bare-held d 0 s)) ∙ verdict-bare (heldAs d 0 s) d t in
+      record {
+        heard = ended-number;
+        gives = λ r.
+            rw (← f)
+            (ap (takenAs d (bare s) (t ++ r)) (whole-again l all r n e)
+            ∙ ap (λ (b : List ℕ). record { ended = record { from = d; number = verdictOf (bare s) d b .number; handed = verdictOf (bare s) d b .handed } ∷ []; session = verdictOf (bare s) d b .session; size = n }) (take-at t r n c)
+            ∙ (λ i. record { ended = record { from = d; number = q i .number; handed = q i .handed } ∷ []; session = q i .session; size = sym c i }));
+        held = held-zero x d (v .session) (completed (x .hold d) (heldOf d s) piece n) (verdict-held (heldAs d 0 s) d t);
+      }
+    where
+      ended-number : ends (verdictOf (heldAs d 0 s) d (take n all) .number) ≡ true
+      ended-number = verdict-ends d s all n e
+
+-- ---- every call is one of the two
+
+-- what a call shows of itself, and that the counts stay small
+record Shows (x : Both) (d : Side) (piece : List ℕ) (o : Outcome) : Type 0 where
+  kind : Quiet x d piece o ⊎ Ending x d piece o
+  few : (e : Side) → heldOf e (o .session) ≤ 32783
+
+few-as : (d : Side) (n : ℕ) (s : Session) → n ≤ 32783 → ((e : Side) → heldOf e s ≤ 32783) → (e : Side) → heldOf e (heldAs d n s) ≤ 32783
+few-as Guest n s h f Guest = h
+few-as Guest n s h f Host = f Host
+few-as Host n s h f Guest = f Guest
+few-as Host n s h f Host = h
+
+few-same : (s t : Session) → t .held ≡ s .held → ((e : Side) → heldOf e s ≤ 32783) → (e : Side) → heldOf e t ≤ 32783
+few-same s t q f Guest = subst (λ (h : Held). h .guest ≤ 32783) (sym q) (f Guest)
+few-same s t q f Host = subst (λ (h : Held). h .host ≤ 32783) (sym q) (f Host)
+
+barred-silent : (d : Side) (s : Session) (hold : List ℕ) → (barred d s hold ≡ 0 → ⊥) → ends (barred d s hold) ≡ false
+unfolding barred
+barred-silent d s hold = go (ltb (length hold) 32784) (unfit s || heldWhole d s hold) (s .stopped) (isWaiting (linkOf d s))
+  where
+    go : (a b c e : Bool) → (_≡_ {A = ℕ} (cond a 41 (cond b 43 (cond c 3 (cond e 2 0)))) 0 → ⊥) → ends (cond a 41 (cond b 43 (cond c 3 (cond e 2 0)))) ≡ false
+    go true b c e z = refl
+    go false true c e z = refl
+    go false false true e z = refl
+    go false false false true z = refl
+    go false false false false z = absurd (z refl)
+
+shows : (x : Both) (d : Side) (piece : List ℕ) → Fits x → Shows x d piece (offerOf d (x .session) (x .hold d) piece)
+unfolding offerOf
+shows x d piece f =
+    cases (eqb (barred d (x .session) (x .hold d)) 0)
+    (λ t. rw t (goes (ready d (x .session) (x .hold d) (eqb-true _ _ t)) (cutAt (linkOf d (x .session)) (heldBy x d ++ piece)) refl))
+    (λ t. rw t (record { kind = inl (unmoved-quiet x d piece (barred d (x .session) (x .hold d)) (barred-silent d (x .session) (x .hold d) (λ z. true≢false (sym (ap (λ (m : ℕ). eqb m 0) z) ∙ t)))); few = f .few }))
+  where
+    goes : Ready d (x .session) (x .hold d) → (c : Cut) → cutAt (linkOf d (x .session)) (heldBy x d ++ piece) ≡ c → Shows x d piece (byCut d (x .session) (x .hold d) piece c)
+    goes r more e =
+        let h = more-few (linkOf d (x .session)) (x .hold d) piece (heldOf d (x .session)) (r .room) (f .few d) e in
+        record { kind = inl (kept-quiet x d piece (omega (arith, r .room))); few = few-as d (heldOf d (x .session) + length piece) (x .session) h (f .few) }
+    goes r (bad n) e =
+        record {
+          kind = inr (header-ending x d piece n (header-here (linkOf d (x .session)) (x .hold d) piece (heldOf d (x .session)) (r .room) (f .few d) (r .begun) n e) e);
+          few = few-same (heldAs d 0 (x .session)) (stoppedNow (heldAs d 0 (x .session))) refl (few-as d 0 (x .session) (omega arith) (f .few));
+        }
+    goes r (whole n) e =
+        record {
+          kind = inr (packet-ending x d piece n (whole-here (linkOf d (x .session)) (x .hold d) piece (heldOf d (x .session)) (r .room) (f .few d) (r .begun) n e) e);
+          few = few-same (heldAs d 0 (x .session)) (verdictOf (heldAs d 0 (x .session)) d (take n (heldBy x d ++ piece)) .session) (verdict-held (heldAs d 0 (x .session)) d (take n (heldBy x d ++ piece))) (few-as d 0 (x .session) (omega arith) (f .few));
+        }
+
+fits-next : (x : Both) (c : Call) → Fits x → Fits (next x c)
+fits-next x c f = record { room = rooms (c .from) (answerTo x c .hold) (demand-1 .read (c .from) (x .session) (x .hold (c .from)) (c .piece) .buffer); few = shows x (c .from) (c .piece) f .few }
+  where
+    rooms : (d : Side) (hold : List ℕ) → length hold ≡ length (x .hold d) → (e : Side) → 32784 ≤ length (of-side d hold (x .hold) e)
+    rooms Guest hold q Guest = rw q (f .room Guest)
+    rooms Guest hold q Host = f .room Host
+    rooms Host hold q Guest = f .room Guest
+    rooms Host hold q Host = rw q (f .room Host)
+
+-- ---- a run is what `play` makes of its bytes and its order
+
+-- each side's bytes: those held at first and those taken
+abbrev pub streams : Both → List Call → Side → List ℕ
+streams x cs d = heldBy x d ++ bytesTaken d x cs
+
+abbrev pub left : Both → Played
+left x = record { ended = []; session = bare (x .session); rest = heldBy x }
+
+-- what a quiet call adds to the answers, and what an ending one does
+none-ended : (b : Bool) (e : Ended) (es : List Ended) → b ≡ false → cond b (e ∷ []) [] ++ es ≡ es
+none-ended true e es z = absurd (true≢false z)
+none-ended false e es z = refl
+
+one-ended : (b : Bool) (e : Ended) (es : List Ended) → b ≡ true → cond b (e ∷ []) [] ++ es ≡ e ∷ es
+one-ended true e es z = refl
+one-ended false e es z = absurd (true≢false (sym z))
+
+-- a side's bytes h, and t behind them, with T of side d between
+module _ (d : Side) (h : Side → List ℕ) (T : List ℕ) (t : Side → List ℕ) where
+  abbrev joined : Side → List ℕ
+  joined e = h e ++ (of-side d T (λ i. []) e ++ t e)
+
+  own-joined : joined d ≡ h d ++ T ++ t d
+  own-joined = go d
+    where
+      go : (d : Side) → h d ++ (of-side d T (λ i. []) d ++ t d) ≡ h d ++ T ++ t d
+      go Guest = sym (append-assoc (h Guest) T (t Guest))
+      go Host = sym (append-assoc (h Host) T (t Host))
+
+rest-joined : (d : Side) (h h′ : Side → List ℕ) (T : List ℕ) (t : Side → List ℕ) → ((e : Side) → h′ e ≡ of-side d [] h e) → (e : Side)
+    → of-side d (drop (length (h d ++ T)) (joined d h T t d)) (joined d h T t) e ≡ h′ e ++ t e
+rest-joined Guest h h′ T t q Guest = ap (drop (length (h Guest ++ T))) (own-joined Guest h T t) ∙ drop-append-seam (h Guest ++ T) (t Guest) ∙ ap (λ (b : List ℕ). b ++ t Guest) (sym (q Guest))
+rest-joined Guest h h′ T t q Host = ap (λ (b : List ℕ). b ++ t Host) (sym (q Host))
+rest-joined Host h h′ T t q Guest = ap (λ (b : List ℕ). b ++ t Guest) (sym (q Guest))
+rest-joined Host h h′ T t q Host = ap (drop (length (h Host ++ T))) (own-joined Host h T t) ∙ drop-append-seam (h Host ++ T) (t Host) ∙ ap (λ (b : List ℕ). b ++ t Host) (sym (q Host))
+
+-- the claim, of a run
+abbrev Plays : Both → List Call → Type 0
+Plays x cs = play (sides (endings x cs)) (bare (x .session)) (streams x cs) ≡ behind (endings x cs) (left (final x cs))
+
+quiet-plays : (x : Both) (c : Call) (cs : List Call) → Quiet x (c .from) (c .piece) (answerTo x c) → Plays (next x c) cs → Plays x (c ∷ cs)
+unfolding endings final bytesTaken
+quiet-plays x c cs q ih =
+    let y : Both = next x c in
+    let o : Outcome = answerTo x c in
+    let z = none-ended (ends (o .number)) (record { from = c .from; number = o .number; handed = o .handed }) (endings y cs) (q .silent) in
+    let p : (d : Side) → streams x (c ∷ cs) d ≡ streams y cs d =
+    λ d. sym (append-assoc (heldBy x d) (of-side (c .from) (take (o .taken) (c .piece)) (λ e. []) d) (bytesTaken d y cs)) ∙ ap (λ (b : List ℕ). b ++ bytesTaken d y cs) (sym (q .held d)) in
+    let w = sym (q .same) in
+    (λ i. play (sides (z i)) (bare (x .session)) (streams x (c ∷ cs)))
+    ∙ (λ i. play (sides (endings y cs)) (w i) (λ d. p d i))
+    ∙ ih
+    ∙ (λ i. behind (sym z i) (left (final y cs)))
+
+ending-plays : (x : Both) (c : Call) (cs : List Call) → Ending x (c .from) (c .piece) (answerTo x c) → Plays (next x c) cs → Plays x (c ∷ cs)
+unfolding play endings final bytesTaken
+ending-plays x c cs q ih =
+    let y : Both = next x c in
+    let o : Outcome = answerTo x c in
+    let d : Side = c .from in
+    let e : Ended = record { from = d; number = o .number; handed = o .handed } in
+    let T : List ℕ = take (o .taken) (c .piece) in
+    let z = one-ended (ends (o .number)) e (endings y cs) (q .heard) in
+    let b : Side → List ℕ = streams x (c ∷ cs) in
+    let k : taking d (bare (x .session)) (b d) ≡ record { ended = e ∷ []; session = bare (y .session); size = length (heldBy x d ++ T) } =
+    ap (taking d (bare (x .session))) (own-joined d (heldBy x) T (λ e. bytesTaken e y cs)) ∙ q .gives (bytesTaken d y cs) in
+    let p = rest-joined d (heldBy x) (heldBy y) T (λ e. bytesTaken e y cs) (q .held) in
+    (λ i. play (sides (z i)) (bare (x .session)) b)
+    ∙ (λ i. behind (k i .ended) (play (sides (endings y cs)) (k i .session) (of-side d (drop (k i .size) (b d)) b)))
+    ∙ (λ i. behind (e ∷ []) (play (sides (endings y cs)) (bare (y .session)) (λ f. p f i)))
+    ∙ ap (behind (e ∷ [])) ih
+    ∙ (λ i. behind (sym z i) (left (final y cs)))
+
+pub plays : (x : Both) (cs : List Call) → Fits x → Plays x cs
+unfolding play endings final bytesTaken
+plays x [] f = λ i. record { ended = []; session = bare (x .session); rest = λ d. append-nil (heldBy x d) i }
+plays x (c ∷ cs) f = go (shows x (c .from) (c .piece) f .kind) (plays (next x c) cs (fits-next x c f))
+  where
+    go : Quiet x (c .from) (c .piece) (answerTo x c) ⊎ Ending x (c .from) (c .piece) (answerTo x c) → Plays (next x c) cs → Plays x (c ∷ cs)
+    go (inl q) ih = quiet-plays x c cs q ih
+    go (inr q) ih = ending-plays x c cs q ih
+
+-- ---- the theorem
+
+-- two runs in which the same bytes of each end are taken, and packets end in the same order
+pub record SameTraffic (x : Both) (cs₁ cs₂ : List Call) : Type 0 where
+  pub taken : (d : Side) → bytesTaken d x cs₁ ≡ bytesTaken d x cs₂
+  pub order : sides (endings x cs₁) ≡ sides (endings x cs₂)
+
+-- they give the same answers other than 1, the same packets, the same session, and hold the same bytes
+pub record SameResult (x : Both) (cs₁ cs₂ : List Call) : Type 0 where
+  pub answers : endings x cs₁ ≡ endings x cs₂
+  pub session : final x cs₁ .session ≡ final x cs₂ .session
+  pub held : (d : Side) → heldBy (final x cs₁) d ≡ heldBy (final x cs₂) d
+
+fits-final : (x : Both) (cs : List Call) → Fits x → Fits (final x cs)
+unfolding final
+fits-final x [] f = f
+fits-final x (c ∷ cs) f = fits-final (next x c) cs (fits-next x c f)
+
+-- a session is what it is with nothing held, and its counts
+counted : (s t : Session) → bare s ≡ bare t → ((d : Side) → heldOf d s ≡ heldOf d t) → s ≡ t
+counted s t e c =
+    let g = c Guest in
+    let h = c Host in
+    λ i. heldAs Guest (g i) (heldAs Host (h i) (e i))
+
+pub cuts : (x : Both) (cs₁ cs₂ : List Call) → Fits x → SameTraffic x cs₁ cs₂ → SameResult x cs₁ cs₂
+cuts x cs₁ cs₂ f q =
+    let e : behind (endings x cs₁) (left (final x cs₁)) ≡ behind (endings x cs₂) (left (final x cs₂)) =
+    sym (plays x cs₁ f) ∙ (λ i. play (q .order i) (bare (x .session)) (λ d. heldBy x d ++ q .taken d i)) ∙ plays x cs₂ f in
+    let g : (d : Side) → heldBy (final x cs₁) d ≡ heldBy (final x cs₂) d = λ d. ap (λ (p : Played). p .rest d) e in
+    let l : (cs : List Call) (d : Side) → length (heldBy (final x cs) d) ≡ heldOf d (final x cs .session) =
+    λ cs d. let h = fits-final x cs f in length-take-le (heldOf d (final x cs .session)) (final x cs .hold d) (omega (arith, h .few d, h .room d)) in
+    record {
+      answers = sym (append-nil (endings x cs₁)) ∙ ap (λ (p : Played). p .ended) e ∙ append-nil (endings x cs₂);
+      session = counted (final x cs₁ .session) (final x cs₂ .session) (ap (λ (p : Played). p .session) e) (λ d. sym (l cs₁ d) ∙ ap length (g d) ∙ l cs₂ d);
+      held = g;
+    }
