@@ -256,7 +256,6 @@ verdict-ends d s b n e =
     (λ t. rw t (session-numbers (λ m. ends m ≡ true) (refl, (refl, (refl, (refl, (refl, (refl, (refl, (refl, (refl, (refl, (refl, tt))))))))))) (heldAs d 0 s) (eventOf d (decode (linkOf d s) (take n b)))))
     (λ t. rw t (rw (whole-number (linkOf d s) b n e) (wire-numbers (λ m. ends m ≡ true) (refl, (refl, (refl, (refl, (refl, (refl, (refl, tt))))))) (linkOf d s) (decode (linkOf d s) (take n b)))))
 
-
 -- buffers that 41 allows, and counts that 43 allows
 pub record Fits (x : Both) : Type 0 where
   pub room : (d : Side) → 32784 ≤ length (x .hold d)

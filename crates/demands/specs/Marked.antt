@@ -1,0 +1,156 @@
+-- Document 01's marked examples, M1 to M11: one list of examples under one claim, about the definitions that the contracts of the reader
+-- and the writer cite. Each gives numbers: bytes put out, and the numbers of reader calls.
+-- Assumes nothing.
+use Prim.Native.Nat.{ℕ, zero, suc, _+_}
+use Prim.Native.String.{String}
+use mathlib.Core.Bool.{Bool, true, false, cond}
+use mathlib.Core.List.{List, [], _∷_, _++_}
+use mathlib.Core.Option.{none, some}
+use mathlib.Core.Path.{_≡_, refl}
+use lib.ListN.{length, take, drop, set, replicate}
+use lib.Dec.{eqb}
+use Rattle.number.specs.Little.{bytesOf}
+use Rattle.endpoint.specs.declared.RowOf.{RowOf}
+use Rattle.endpoint.specs.declared.RowOf.the-variants.{At, Malformed}
+use Rattle.endpoint.specs.Endpoint.{rowOf}
+use Rattle.header.specs.declared.Side.{Side}
+use Rattle.header.specs.declared.Side.the-variants.{Guest, Host}
+use Rattle.header.specs.declared.Hello.the-variants.{Passed}
+use Rattle.header.specs.Link.{sharedSet, idWidth}
+use Rattle.header.specs.Header.{headerSize, headerBytes, headerNumber}
+use Rattle.kinds.specs.Table.{kinds}
+use Rattle.kinds.specs.Content.{Value, one, Content}
+use Rattle.kinds.specs.Codec.{layout, contentAt, decode, encode, readNumber, packetNumber, writeNumber, written, writtenSize}
+use Rattle.kinds.specs.Number.{bad, kindNumber, wireNumber}
+use Rattle.scan.specs.Scan.{firstAt, exists, anyAt, eachAt}
+use Rattle.device.specs.declared.Introduction.the-variants.{Two}
+use Rattle.device.specs.Device.{bulk, startRows, startDevice, replaced, streamTo, closed, touched}
+use Rattle.requests.specs.declared.Place.{Place}
+use Rattle.requests.specs.Requests.{freshRequests, taken, idsDiffer, clashes, lowest, withPlace, released}
+use Rattle.events.specs.Meaning.{meanings}
+use Rattle.events.specs.Event.{meaningOf, eventOf}
+use Rattle.checks.specs.Checks.{matchOf, numberFor}
+use Rattle.session.specs.declared.Session.{Session}
+use Rattle.session.specs.Session.{freshSession, unfit}
+use Rattle.session.specs.Step.{nextFor, judged}
+use Rattle.decoder.specs.Reading.{readOf}
+use Rattle.roundtrip.specs.Cut.{cutOf}
+use Rattle.verdict.specs.Verdict.{verdictOf}
+use Rattle.gate.specs.Offer.{barred, offerOf}
+use Rattle.gate.specs.Write.{shut, output, outputSize}
+use Rattle.demands.specs.Cuts.{Both, Call, answerTo, next}
+
+-- ---- what the examples are run on
+
+-- a session whose hellos both offered the same word, with a device whose endpoint 2 OUT is bulk, and these places for requests
+abbrev sessionOf : ℕ → List Place → Session
+sessionOf word places =
+    record {
+      guest = Passed word;
+      host = Passed word;
+      stopped = false;
+      held = record { guest = 0; host = 0 };
+      device = record { present = true; introduction = Two; owed = false; rows = record { rows = set (startRows .rows) 2 (record { kind = bulk; interface = 0; streaming = false }) } };
+      requests = record { places = places };
+    }
+
+-- with two holding buffers of the least size
+abbrev buffered : Session → Both
+buffered s = record { session = s; hold = λ d. replicate 32784 0 }
+
+abbrev connected : ℕ → Both
+connected word = buffered (sessionOf word (freshRequests .places))
+
+abbrev guest : List ℕ → Call
+guest bytes = record { from = Guest; piece = bytes }
+
+abbrev host : List ℕ → Call
+host bytes = record { from = Host; piece = bytes }
+
+-- the numbers of calls, one after the other
+unfoldable numbers : Both → List Call → List ℕ
+numbers x [] = []
+numbers x (c ∷ cs) = answerTo x c .number ∷ numbers (next x c) cs
+
+-- the bytes that a side's packet is put out as, of 64 bytes of room
+abbrev put : ℕ → Side → Content → List ℕ
+put word from p = take (outputSize from (connected word .session) p 64) (output from (connected word .session) p (replicate 64 0))
+
+-- ---- packets
+
+abbrev packet : ℕ → ℕ → List Value → List ℕ → Content
+packet kind id fields rest = record { kind = kind; id = id; fields = fields; rest = rest }
+
+abbrev getConfiguration : ℕ → Content
+getConfiguration id = packet 7 id [] []
+
+-- a bulk packet on an endpoint, without bit 6
+abbrev bulkPacket : ℕ → ℕ → ℕ → List ℕ → Content
+bulkPacket id e n rest = packet 101 id (one e ∷ one 0 ∷ one n ∷ one 0 ∷ none ∷ []) rest
+
+-- "bulk OUT endpoint 2, id 9, no bit 6, data AA BB", and "its reply"
+abbrev m3 : List ℕ
+m3 = 101 ∷ 0 ∷ 0 ∷ 0 ∷ 10 ∷ 0 ∷ 0 ∷ 0 ∷ 9 ∷ 0 ∷ 0 ∷ 0 ∷ 2 ∷ 0 ∷ 2 ∷ 0 ∷ 0 ∷ 0 ∷ 0 ∷ 0 ∷ 170 ∷ 187 ∷ []
+
+abbrev m4 : List ℕ
+m4 = 101 ∷ 0 ∷ 0 ∷ 0 ∷ 8 ∷ 0 ∷ 0 ∷ 0 ∷ 9 ∷ 0 ∷ 0 ∷ 0 ∷ 2 ∷ 0 ∷ 2 ∷ 0 ∷ 0 ∷ 0 ∷ 0 ∷ 0 ∷ []
+
+-- a header with this length
+abbrev headerSaying : ℕ → List ℕ
+headerSaying n = bytesOf 4 101 ++ (bytesOf 4 n ++ bytesOf 4 9)
+
+-- a hello with one word
+abbrev helloWith : ℕ → List ℕ
+helloWith word = bytesOf 4 0 ++ (bytesOf 4 68 ++ (bytesOf 4 0 ++ (replicate 64 0 ++ bytesOf 4 word)))
+
+-- get-config and its status, by id
+abbrev asks : ℕ → Call
+asks id = guest (bytesOf 4 7 ++ (bytesOf 4 0 ++ bytesOf 4 id))
+
+abbrev answers : ℕ → Call
+answers id = host (bytesOf 4 8 ++ (bytesOf 4 2 ++ (bytesOf 4 id ++ (0 ∷ 1 ∷ []))))
+
+-- 96 get-configs that wait, with ids from 0 up
+abbrev waiting : ℕ → ℕ → List Place
+waiting zero id = []
+waiting (suc n) id = taken (record { id = id; kind = 7; target = 0; length = 0 }) ∷ waiting n (suc id)
+
+-- ---- the examples
+
+pub record Example : Type 0 where
+  pub name : String
+  pub gives : List ℕ
+  pub expected : List ℕ
+
+-- a row as a list: empty where the byte is no endpoint
+abbrev rowNumber : RowOf → List ℕ
+rowNumber (At r) = r .0 ∷ []
+rowNumber Malformed = []
+
+unfoldable pub marked : List Example
+unfolding numbers
+marked =
+    record { name = "M1"; gives = put 0 Guest (getConfiguration 7); expected = 7 ∷ 0 ∷ 0 ∷ 0 ∷ 0 ∷ 0 ∷ 0 ∷ 0 ∷ 7 ∷ 0 ∷ 0 ∷ 0 ∷ [] }
+    ∷ record { name = "M1, read"; gives = numbers (connected 0) (guest (put 0 Guest (getConfiguration 7)) ∷ []); expected = 0 ∷ [] }
+    ∷ record { name = "M2"; gives = put 32 Guest (getConfiguration 7); expected = 7 ∷ 0 ∷ 0 ∷ 0 ∷ 0 ∷ 0 ∷ 0 ∷ 0 ∷ 7 ∷ 0 ∷ 0 ∷ 0 ∷ 0 ∷ 0 ∷ 0 ∷ 0 ∷ [] }
+    ∷ record { name = "M2, read"; gives = numbers (connected 32) (guest (put 32 Guest (getConfiguration 7)) ∷ []); expected = 0 ∷ [] }
+    ∷ record { name = "M3"; gives = put 0 Guest (bulkPacket 9 2 2 (170 ∷ 187 ∷ [])); expected = m3 }
+    ∷ record { name = "M4"; gives = put 0 Host (bulkPacket 9 2 2 []); expected = m4 }
+    ∷ record { name = "M3, M4, M5"; gives = numbers (connected 0) (guest m3 ∷ host m4 ∷ host m4 ∷ []); expected = 0 ∷ 0 ∷ 33 ∷ [] }
+    ∷ record { name = "M6"; gives = numbers (connected 0) (guest (headerSaying 32768) ∷ []); expected = 1 ∷ [] }
+    ∷ record { name = "M7"; gives = numbers (connected 0) (guest (headerSaying 32769) ∷ []); expected = 10 ∷ [] }
+    ∷ record { name = "M8"; gives = rowNumber (rowOf (record { 0 = 130 })); expected = 18 ∷ [] }
+    ∷ record { name = "M9"; gives = numbers (connected 0) (guest (headerSaying 8 ++ (18 ∷ 0 ∷ 0 ∷ 0 ∷ 0 ∷ 0 ∷ 0 ∷ 0 ∷ [])) ∷ []); expected = 24 ∷ [] }
+    ∷ record { name = "M10, word 1"; gives = numbers (buffered freshSession) (host (helloWith 1) ∷ []); expected = 13 ∷ [] }
+    ∷ record { name = "M10, word 17"; gives = numbers (buffered freshSession) (host (helloWith 17) ∷ []); expected = 0 ∷ [] }
+    ∷ record { name = "M11"; gives = numbers (buffered (sessionOf 0 (waiting 96 0))) (asks 96 ∷ answers 5 ∷ asks 96 ∷ []); expected = 32 ∷ 0 ∷ 0 ∷ [] }
+    ∷ []
+
+-- the claim
+abbrev pub AsExpected : List Example → Type 0
+AsExpected [] = Unit {0}
+AsExpected (e ∷ es) = (e .gives ≡ e .expected) × AsExpected es
+
+pub as-marked : AsExpected marked
+unfolding marked numbers offerOf barred unfit verdictOf readOf cutOf shut output outputSize written writtenSize writeNumber packetNumber readNumber encode decode contentAt headerSize headerBytes headerNumber idWidth sharedSet wireNumber kindNumber bad layout kinds freshSession judged numberFor matchOf nextFor eventOf meaningOf meanings startRows startDevice replaced streamTo closed touched freshRequests lowest withPlace released idsDiffer clashes firstAt exists anyAt eachAt
+as-marked = (refl, (refl, (refl, (refl, (refl, (refl, (refl, (refl, (refl, (refl, (refl, (refl, (refl, (refl, tt))))))))))))))
