@@ -1,0 +1,40 @@
+-- `drive::data_of` meets its contract: by cases of what is handed out.
+-- Assumes nothing.
+use Rattle.drive.proofs.Laws.{data-none, data-passed}
+use borrow.Author.Needs.{needs}
+use Rattle.drive.proofs.data_of.Statement.{statement}
+use Rattle.drive.proofs.data_of.Tie as tie
+
+enum-told : tie.Need-enum-told
+enum-told c = search needs
+
+enum-known-handed : tie.Need-enum-known-handed
+enum-known-handed c = search needs
+
+part-named-requires : tie.Need-part-named-requires
+part-named-requires c κs = search needs
+
+wrapping-add-usize-requires : tie.Need-wrapping-add-usize-requires
+wrapping-add-usize-requires c κs = search needs
+
+wrapping-add-usize-requires-2 : tie.Need-wrapping-add-usize-requires-2
+wrapping-add-usize-requires-2 c κs = search needs
+
+returns : tie.Need-returns
+returns c = data-none (c .enum-told .given .1)
+
+returns-2 : tie.Need-returns-2
+returns-2 c =
+    data-passed (c .before .before .before .before .handed .given .1) (c .before .before .part-named .ensures) (c .before .wrapping-add-usize .ensures) (c .wrapping-add-usize2 .ensures)
+
+pub data-of-spec : {M : Type 1} → statement M
+data-of-spec =
+    tie.close
+    (tie.spec
+    enum-told
+    enum-known-handed
+    part-named-requires
+    wrapping-add-usize-requires
+    wrapping-add-usize-requires-2
+    returns
+    returns-2)

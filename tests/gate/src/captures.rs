@@ -1,0 +1,83 @@
+//! Captured traffic of real peers, in report lines.
+
+use std::collections::BTreeMap;
+use std::fs;
+use std::path::{Path, PathBuf};
+
+use plain::{Side, HOLD_SIZE};
+
+use crate::script::{Item, Line, Script};
+
+/// Where the captures and their totals lie.
+pub fn directory() -> PathBuf {
+    Path::new(env!("CARGO_MANIFEST_DIR")).join("captures")
+}
+
+/// The captures in order of their names.
+pub fn files() -> Vec<PathBuf> {
+    let mut files: Vec<PathBuf> = fs::read_dir(directory())
+        .expect("the directory of captures is there")
+        .map(|entry| entry.expect("it can be listed").path())
+        .filter(|path| path.extension().is_some_and(|extension| extension == "txt"))
+        .filter(|path| path.file_stem().is_some_and(|stem| stem != "totals"))
+        .collect();
+    files.sort();
+    files
+}
+
+/// A script that offers the lines of a capture as the report program does, and whether the plain
+/// session is stopped then.
+pub fn script(capture: &Path) -> (Script, bool) {
+    let text = fs::read_to_string(capture).expect("a capture can be read");
+    let mut script = Script {
+        guest_size: HOLD_SIZE,
+        host_size: HOLD_SIZE,
+        fill: 0,
+        items: Vec::new(),
+    };
+    let mut line = Line::new(&script);
+    for words in text.lines() {
+        let (from, digits) = match words.strip_prefix("from=guest bytes=") {
+            Some(digits) => (Side::Guest, digits),
+            None => (
+                Side::Host,
+                words
+                    .strip_prefix("from=host bytes=")
+                    .expect("a report line"),
+            ),
+        };
+        let bytes: Vec<u8> = (0..digits.len() / 2)
+            .map(|at| u8::from_str_radix(&digits[2 * at..2 * at + 2], 16).expect("hex digits"))
+            .collect();
+        let mut rest = bytes.as_slice();
+        while !rest.is_empty() {
+            let call = line.call(from, rest);
+            script.items.push(Item {
+                from,
+                piece: rest.to_vec(),
+            });
+            if matches!(call.number, 2 | 3) {
+                break;
+            }
+            rest = &rest[call.taken as usize..];
+        }
+    }
+    (script, line.session.is_stopped())
+}
+
+/// The line of totals for the numbers that a capture was answered with.
+pub fn totals(name: &str, numbers: impl Iterator<Item = u8>, stopped: bool) -> String {
+    let mut counts: BTreeMap<u8, usize> = BTreeMap::new();
+    for number in numbers {
+        *counts.entry(number).or_default() += 1;
+    }
+    let passed = counts.get(&0).copied().unwrap_or(0);
+    let refused: usize = counts.range(10..=34).map(|(_, count)| count).sum();
+    let stopped = u8::from(stopped);
+    let each: Vec<String> = counts
+        .iter()
+        .map(|(number, count)| format!("{number}:{count}"))
+        .collect();
+    let each = each.join(" ");
+    format!("{name} passed={passed} refused={refused} stopped={stopped} {each}")
+}

@@ -1,0 +1,362 @@
+//! Compares the proved gate with the plain one, answer by answer.
+//!
+//! `gate_tests [SEED]`: fixed seeds are run, and the one given, or else one from the clock. The last
+//! line is `N passed, M failed`.
+
+mod captures;
+mod damage;
+mod delivery;
+mod drive;
+mod rng;
+mod script;
+mod traffic;
+
+use std::collections::{BTreeMap, BTreeSet};
+use std::fs;
+use std::process::ExitCode;
+use std::time::{SystemTime, UNIX_EPOCH};
+
+use plain::{Side, HOLD_SIZE};
+
+use delivery::{deliver, Mode};
+use drive::{by_drive, compare, RECORD};
+use rng::Rng;
+use script::{Item, Line, Script};
+use traffic::{plan, shared_sets, Sent, Style};
+
+const FIXED_SEEDS: [u64; 2] = [1, 2];
+/// Packets for each seed.
+const PACKETS: usize = 100_000;
+/// Streams cut in two ways, for each seed.
+const CUTS: usize = 300;
+/// Numbers that have to occur in the comparison.
+const NUMBERS: [u8; 24] = [
+    0, 1, 2, 3, 10, 11, 12, 13, 20, 21, 22, 23, 24, 25, 26, 27, 28, 29, 30, 31, 32, 33, 34, 41,
+];
+
+#[derive(Default)]
+struct Tests {
+    passed: usize,
+    failed: usize,
+}
+
+impl Tests {
+    /// Counts a test and prints its line: what it did, or what went wrong.
+    fn test(&mut self, name: &str, result: Result<String, String>) {
+        match result {
+            Ok(told) => {
+                self.passed += 1;
+                println!("ok      {name}: {told}");
+            }
+            Err(wrong) => {
+                self.failed += 1;
+                println!("FAILED  {name}: {wrong}");
+            }
+        }
+    }
+}
+
+fn main() -> ExitCode {
+    let seed = match std::env::args().nth(1).map(|text| text.parse()) {
+        Some(Ok(seed)) => seed,
+        Some(Err(_)) => {
+            eprintln!("usage: gate_tests [SEED]");
+            return ExitCode::FAILURE;
+        }
+        None => SystemTime::now()
+            .duration_since(UNIX_EPOCH)
+            .map_or(0, |time| time.as_nanos() as u64),
+    };
+    println!("seed {seed}");
+    let mut tests = Tests::default();
+    tests.test("the ends of script and output", ends());
+    for seed in FIXED_SEEDS.into_iter().chain([seed]) {
+        let mut counts = BTreeMap::new();
+        tests.test(
+            &format!("differential, seed {seed}"),
+            differential(seed, &mut counts),
+        );
+        tests.test(
+            &format!("every number occurs, seed {seed}"),
+            all_occur(&counts),
+        );
+        tests.test(&format!("cuts, seed {seed}"), cuts(seed));
+    }
+    capture_tests(&mut tests);
+    println!("{} passed, {} failed", tests.passed, tests.failed);
+    ExitCode::from(u8::from(tests.failed > 0))
+}
+
+/// The sizes of the two buffers: mostly just enough.
+fn buffer_size(rng: &mut Rng) -> usize {
+    match rng.below(80) {
+        0 => HOLD_SIZE - 1,
+        1 => rng.below(HOLD_SIZE),
+        2..=20 => HOLD_SIZE + rng.below(3000),
+        _ => HOLD_SIZE,
+    }
+}
+
+/// Generated traffic through both, call by call, and the buffers after each script.
+fn differential(seed: u64, counts: &mut BTreeMap<u8, usize>) -> Result<String, String> {
+    let mut rng = Rng::new(seed);
+    let sets = shared_sets();
+    let mut seen = BTreeSet::new();
+    let (mut packets, mut calls, mut scripts, mut prefixes) = (0, 0, 0, 0);
+    while packets < PACKETS || scripts < 2 * sets.len() {
+        let style = Style::random(&mut rng, sets[scripts % sets.len()]);
+        let script = generated(&mut rng, &style);
+        let outcome = compare(&script).map_err(|wrong| format!("script {scripts}, {wrong}"))?;
+        for call in &outcome.calls {
+            *counts.entry(call.number).or_default() += 1;
+        }
+        if outcome.calls.iter().filter(|call| call.number == 0).count() >= 2 {
+            seen.insert(style.guest_word & style.host_word & 255);
+        }
+        packets += outcome.calls.iter().filter(|call| call.tells()).count();
+        calls += outcome.calls.len();
+        scripts += 1;
+        // The buffers after each single call, for some of the short scripts.
+        if script.items.len() < 60 && scripts % 4 == 0 {
+            let mut shorter = script;
+            while shorter.items.pop().is_some() {
+                compare(&shorter).map_err(|wrong| format!("part of script {scripts}, {wrong}"))?;
+                prefixes += 1;
+            }
+        }
+    }
+    if seen.len() < sets.len() {
+        return Err(format!(
+            "only {} of {} shared sets were reached",
+            seen.len(),
+            sets.len()
+        ));
+    }
+    Ok(format!(
+        "{packets} packets in {calls} calls of {scripts} scripts, {} shared sets; {prefixes} parts of scripts",
+        seen.len()
+    ))
+}
+
+fn generated(rng: &mut Rng, style: &Style) -> Script {
+    let script = Script {
+        guest_size: buffer_size(rng),
+        host_size: buffer_size(rng),
+        fill: rng.next(),
+        items: Vec::new(),
+    };
+    let mut packets = plan(rng, style);
+    if rng.percent(3) {
+        // Bytes that mean nothing, with or without hellos before them.
+        packets.truncate(rng.below(4));
+        let mut noise = vec![0; rng.between(1, 400)];
+        rng.fill(&mut noise);
+        packets.push((rng.pick(&[Side::Guest, Side::Host]), noise));
+    }
+    let mode = rng.pick(&[
+        Mode::Ordered,
+        Mode::Ordered,
+        Mode::Ordered,
+        Mode::Dropping,
+        Mode::Report,
+        Mode::Report,
+        Mode::Loose,
+    ]);
+    deliver(rng, &packets, mode, script)
+}
+
+/// Prints how often each number was given.
+fn all_occur(counts: &BTreeMap<u8, usize>) -> Result<String, String> {
+    let mut table = String::new();
+    for (at, number) in NUMBERS.iter().enumerate() {
+        if at % 8 == 0 {
+            table.push_str("\n       ");
+        }
+        table.push_str(&format!(
+            " {number:>2}: {:<8}",
+            counts.get(number).unwrap_or(&0)
+        ));
+    }
+    let missing: Vec<u8> = NUMBERS
+        .into_iter()
+        .filter(|number| !counts.contains_key(number))
+        .collect();
+    let others: Vec<u8> = counts
+        .keys()
+        .copied()
+        .filter(|number| !NUMBERS.contains(number))
+        .collect();
+    if missing.is_empty() && others.is_empty() {
+        Ok(format!("how often each was given{table}"))
+    } else {
+        Err(format!("missing {missing:?}, unexpected {others:?}{table}"))
+    }
+}
+
+/// The same packets, made whole in the same order, cut in two ways: the same answers other than
+/// 1, 2 and 3.
+fn cuts(seed: u64) -> Result<String, String> {
+    let mut rng = Rng::new(seed ^ 0x6375_7473);
+    let sets = shared_sets();
+    let mut packets = 0;
+    for round in 0..CUTS {
+        let mut style = Style::random(&mut rng, sets[round % sets.len()]);
+        style.packets = style.packets.min(120);
+        let planned = plan(&mut rng, &style);
+        let fresh = Script {
+            guest_size: HOLD_SIZE,
+            host_size: HOLD_SIZE,
+            fill: rng.next(),
+            items: Vec::new(),
+        };
+        let first = deliver(&mut rng, &planned, Mode::Ordered, fresh.clone());
+        // What became whole, and in which order.
+        let events = events(&first);
+        let cut_one = deliver(&mut rng, &events, Mode::Ordered, fresh.clone());
+        let cut_two = deliver(&mut rng, &events, Mode::Ordered, fresh);
+        for cut in [&first, &cut_one, &cut_two] {
+            compare(cut).map_err(|wrong| format!("round {round}, {wrong}"))?;
+        }
+        let [whole, one, two] = [&first, &cut_one, &cut_two].map(answers);
+        if whole != one || one != two {
+            return Err(format!(
+                "round {round}, other answers:\n{}{}{}",
+                first.lines(),
+                cut_one.lines(),
+                cut_two.lines()
+            ));
+        }
+        packets += whole.len();
+    }
+    Ok(format!(
+        "{packets} packets of {CUTS} sessions, each cut in three ways"
+    ))
+}
+
+/// The packets and refused headers that a script's calls tell of.
+fn events(script: &Script) -> Vec<Sent> {
+    let mut line = Line::new(script);
+    let mut events = Vec::new();
+    for item in &script.items {
+        if line.call(item.from, &item.piece).tells() {
+            events.push((item.from, line.told(item.from, &item.piece)));
+        }
+    }
+    events
+}
+
+/// What the proved gate answers to a script, other than 1, 2 and 3, without what depends on cuts.
+fn answers(script: &Script) -> Vec<(Side, u8, u32, u32, u32, u64)> {
+    let told = by_drive(script);
+    script
+        .items
+        .iter()
+        .zip(&told.calls)
+        .filter(|(_, call)| !matches!(call.number, 1..=3))
+        .map(|(item, call)| {
+            (
+                item.from,
+                call.number,
+                call.size,
+                call.start,
+                call.end,
+                call.id,
+            )
+        })
+        .collect()
+}
+
+/// A script cut short is run up to its last whole item; a short output ends it, too.
+fn ends() -> Result<String, String> {
+    let item = |from, size| Item {
+        from,
+        piece: vec![0x11; size],
+    };
+    let script = Script {
+        guest_size: HOLD_SIZE,
+        host_size: HOLD_SIZE,
+        fill: 7,
+        items: vec![
+            item(Side::Guest, 3),
+            item(Side::Host, 0),
+            item(Side::Host, 5),
+            item(Side::Guest, 8),
+        ],
+    };
+    compare(&script)?;
+    let bytes = script.bytes();
+    let starts: Vec<usize> = (0..=4)
+        .map(|count| {
+            Script {
+                items: script.items[..count].to_vec(),
+                ..script.clone()
+            }
+            .bytes()
+            .len()
+        })
+        .collect();
+    let mut runs = 0;
+    for size in 0..=bytes.len() {
+        for room in [
+            0,
+            1,
+            RECORD - 1,
+            RECORD,
+            2 * RECORD - 1,
+            2 * RECORD,
+            3 * RECORD + 5,
+            4 * RECORD,
+            4 * RECORD + 25,
+        ] {
+            let whole = starts.iter().filter(|start| **start <= size).count() - 1;
+            let expected = whole.min(room / RECORD);
+            let (mut guest, mut host) = script.buffers();
+            let mut out = vec![0xaa; room];
+            let made = drive::run(&bytes[..size], &mut guest, &mut host, &mut out);
+            if made != expected {
+                return Err(format!(
+                    "{size} bytes of script, {room} of output: {made} calls, not {expected}"
+                ));
+            }
+            if out[made * RECORD..].iter().any(|byte| *byte != 0xaa) {
+                return Err(format!(
+                    "{size} bytes of script, {room} of output: written behind the last record"
+                ));
+            }
+            runs += 1;
+        }
+    }
+    Ok(format!("{runs} runs"))
+}
+
+/// Each capture through both, and its totals against those that are stored.
+fn capture_tests(tests: &mut Tests) {
+    let path = captures::directory().join("totals.txt");
+    let stored = fs::read_to_string(&path).unwrap_or_default();
+    let files = captures::files();
+    for file in &files {
+        let name = file
+            .file_stem()
+            .expect("a name")
+            .to_string_lossy()
+            .into_owned();
+        let (script, stopped) = captures::script(file);
+        let result = compare(&script).and_then(|outcome| {
+            let totals =
+                captures::totals(&name, outcome.calls.iter().map(|call| call.number), stopped);
+            if stored.lines().any(|line| line == totals) {
+                Ok(totals)
+            } else {
+                Err(format!("not the stored totals: {totals}"))
+            }
+        });
+        tests.test("capture", result);
+    }
+    let listed = stored.lines().filter(|line| !line.starts_with('#')).count();
+    let complete = if listed == files.len() && listed > 0 {
+        Ok(format!("{listed} captures"))
+    } else {
+        Err(format!("{} captures, {listed} stored totals", files.len()))
+    };
+    tests.test("all captures have totals", complete);
+}

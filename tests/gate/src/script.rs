@@ -1,0 +1,203 @@
+//! Scripts of reader calls, and what came of them.
+
+use plain::{offer, Place, Session, Side};
+
+use crate::rng::Rng;
+
+/// One reader call.
+#[derive(Clone)]
+pub struct Item {
+    pub from: Side,
+    pub piece: Vec<u8>,
+}
+
+/// A fresh session, two holding buffers, and reader calls.
+#[derive(Clone)]
+pub struct Script {
+    pub guest_size: usize,
+    pub host_size: usize,
+    /// What the buffers hold before.
+    pub fill: u64,
+    pub items: Vec<Item>,
+}
+
+/// What a call told.
+#[derive(Clone, Copy, Debug, PartialEq, Eq)]
+pub struct Call {
+    pub number: u8,
+    pub place: u8,
+    pub taken: u32,
+    pub size: u32,
+    pub start: u32,
+    pub end: u32,
+    pub id: u64,
+}
+
+/// What a script's calls told, and the buffers after them.
+#[derive(PartialEq, Eq)]
+pub struct Outcome {
+    pub calls: Vec<Call>,
+    pub guest: Vec<u8>,
+    pub host: Vec<u8>,
+}
+
+impl Script {
+    /// The bytes that the library is given: for each item the sender, the piece's size, the piece.
+    /// Any byte but 0 stands for the host.
+    pub fn bytes(&self) -> Vec<u8> {
+        let mut bytes = Vec::new();
+        for (at, item) in self.items.iter().enumerate() {
+            bytes.push(match item.from {
+                Side::Guest => 0,
+                Side::Host => [1, 1, 2, 128, 255][at % 5],
+            });
+            bytes.extend((item.piece.len() as u32).to_le_bytes());
+            bytes.extend(&item.piece);
+        }
+        bytes
+    }
+
+    /// The buffers as they are before the first call.
+    pub fn buffers(&self) -> (Vec<u8>, Vec<u8>) {
+        let mut rng = Rng::new(self.fill);
+        let mut guest = vec![0; self.guest_size];
+        let mut host = vec![0; self.host_size];
+        rng.fill(&mut guest);
+        rng.fill(&mut host);
+        (guest, host)
+    }
+
+    pub fn by_plain(&self) -> Outcome {
+        let mut line = Line::new(self);
+        for item in &self.items {
+            line.call(item.from, &item.piece);
+        }
+        line.outcome()
+    }
+
+    /// As lines of a report, to be read by people.
+    pub fn lines(&self) -> String {
+        let mut text = format!("buffers of {} and {}\n", self.guest_size, self.host_size);
+        for item in &self.items {
+            let from = match item.from {
+                Side::Guest => "guest",
+                Side::Host => "host",
+            };
+            let digits: String = item
+                .piece
+                .iter()
+                .map(|byte| format!("{byte:02x}"))
+                .collect();
+            text.push_str(&format!("from={from} bytes={digits}\n"));
+        }
+        text
+    }
+}
+
+/// A plain session at work, with its two buffers and what was told so far.
+pub struct Line {
+    pub session: Session,
+    guest: Vec<u8>,
+    host: Vec<u8>,
+    pub calls: Vec<Call>,
+}
+
+impl Line {
+    pub fn new(script: &Script) -> Line {
+        let (guest, host) = script.buffers();
+        Line {
+            session: Session::new(),
+            guest,
+            host,
+            calls: Vec::new(),
+        }
+    }
+
+    pub fn call(&mut self, from: Side, piece: &[u8]) -> Call {
+        let hold = match from {
+            Side::Guest => &mut self.guest,
+            Side::Host => &mut self.host,
+        };
+        let answer = offer(&mut self.session, from, hold, piece);
+        let (start, end, id) = match &answer.handed {
+            Some(handed) => (handed.data.start as u32, handed.data.end as u32, handed.id),
+            None => (0, 0, 0),
+        };
+        let call = Call {
+            number: answer.number,
+            place: match answer.place {
+                Place::Nowhere => 0,
+                Place::Piece => 1,
+                Place::Buffer => 2,
+            },
+            taken: answer.taken as u32,
+            size: answer.size as u32,
+            start,
+            end,
+            id,
+        };
+        self.calls.push(call);
+        call
+    }
+
+    /// The bytes of the packet, or refused header, that the last call told of.
+    pub fn told(&self, from: Side, piece: &[u8]) -> Vec<u8> {
+        let call = self.calls.last().expect("a call was made");
+        let hold = match from {
+            Side::Guest => &self.guest,
+            Side::Host => &self.host,
+        };
+        match call.place {
+            1 => piece[..call.size as usize].to_vec(),
+            2 => hold[..call.size as usize].to_vec(),
+            _ => Vec::new(),
+        }
+    }
+
+    pub fn outcome(self) -> Outcome {
+        Outcome {
+            calls: self.calls,
+            guest: self.guest,
+            host: self.host,
+        }
+    }
+}
+
+impl Call {
+    /// Whether the call told of a packet or of a refused header.
+    pub fn tells(&self) -> bool {
+        !matches!(self.number, 1 | 2 | 3 | 41 | 43)
+    }
+}
+
+/// The first thing in which two outcomes differ.
+pub fn difference(plain: &Outcome, drive: &Outcome) -> Option<String> {
+    for (at, (left, right)) in plain.calls.iter().zip(&drive.calls).enumerate() {
+        if left != right {
+            return Some(format!("call {}: plain {left:?}, drive {right:?}", at + 1));
+        }
+    }
+    if plain.calls.len() != drive.calls.len() {
+        return Some(format!(
+            "plain made {} calls, drive {}",
+            plain.calls.len(),
+            drive.calls.len()
+        ));
+    }
+    for (name, left, right) in [
+        ("guest", &plain.guest, &drive.guest),
+        ("host", &plain.host, &drive.host),
+    ] {
+        if let Some(at) = left
+            .iter()
+            .zip(right)
+            .position(|(left, right)| left != right)
+        {
+            return Some(format!(
+                "{name}'s buffer at {at}: plain {:02x}, drive {:02x}",
+                left[at], right[at]
+            ));
+        }
+    }
+    None
+}
