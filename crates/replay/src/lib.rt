@@ -1,33 +1,13 @@
 // Packets judged whole, one after the other, from a fresh session: for hosts in other languages that test the session. It is not the
 // gate: it holds nothing and never stops.
 ghost use mathlib.Core.Path.{_≡_};
-ghost use Rattle.replay.specs.Replay.{verdictOf, senderOf, Replays};
-use decoder::Reading;
-use decoder::read;
-use events::event_of;
+ghost use Rattle.replay.specs.Replay.{senderOf, Replays};
 use header::Side;
 use number::get8;
 use number::get16;
 use number::part;
-use session::Judged;
-use session::Session;
 use session::fresh_session;
-use session::judge;
-use session::link_of;
-
-// Judges the bytes of one packet: the wire checks, then the session checks.
-pub fn verdict(s: Session, from: Side, bytes: &[u8]) -> Judged
-    ensures { λ r. ⌜ r ≡ verdictOf s from (now (bytes .entry)) ⌝ }
-{
-    let reading = read(link_of(s, from), bytes);
-    match reading {
-        Reading::Refused(number) => Judged { session: s, number },
-        Reading::Passed(h, p) => {
-            let body = part(bytes, h.size, bytes.len());
-            judge(s, event_of(from, h.id, p, body))
-        }
-    }
-}
+use verdict::verdict_of;
 
 fn sender_of(b: u8) -> Side
     ensures { λ r. ⌜ r ≡ senderOf b ⌝ }
@@ -49,7 +29,7 @@ pub extern "C" fn replay(script: &[u8], out: &mut [u8]) -> usize
         if rest.len() < size {
             return k;
         }
-        let v = verdict(s, sender_of(get8(rest, 0)), part(rest, 3, size));
+        let v = verdict_of(s, sender_of(get8(rest, 0)), part(rest, 3, size));
         out[k] = v.number;
         s = v.session;
         at = at + size;

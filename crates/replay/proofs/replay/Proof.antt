@@ -55,8 +55,8 @@ sender-of-requires c κs = search needs
 part-requires : tie.Need-part-requires Inv-loop μ-loop
 part-requires c κs = search needs
 
-verdict-requires : tie.Need-verdict-requires Inv-loop μ-loop
-verdict-requires c κs = search needs
+verdict-of-requires : tie.Need-verdict-of-requires Inv-loop μ-loop
+verdict-of-requires c κs = search needs
 
 slice-write-out : tie.Need-slice-write-out Inv-loop μ-loop
 slice-write-out c = search needs
@@ -77,7 +77,7 @@ loop-less c = search needs
 loop-again : tie.Need-loop-again Inv-loop μ-loop
 loop-again c =
     let a = c .before .before .before .before .before .before .before .before in
-    replay-goes-on (a .before .loop .inv) (a .loop-test .taken) (rest-is (a .before .before .before .before .before .args .script .now) (a .before .loop .at)) (c .before .before .before .before .before .before .get16 .ensures) (c .before .before .before .before .before .if1 .left) (c .before .before .before .before .get8 .ensures) (c .before .before .before .sender-of .ensures) (c .before .before .part .ensures) (c .before .verdict .ensures)
+    replay-goes-on (a .before .loop .inv) (c .before .verdict-of .result) (a .loop-test .taken) (rest-is (a .before .before .before .before .before .args .script .now) (a .before .loop .at)) (c .before .before .before .before .before .before .get16 .ensures) (c .before .before .before .before .before .if1 .left) (c .before .before .before .before .get8 .ensures) (c .before .before .before .sender-of .ensures) (c .before .before .part .ensures) (c .before .verdict-of .ensures)
 
 same-length-2 : tie.Need-same-length-2 Inv-loop μ-loop
 same-length-2 c = search needs
@@ -104,7 +104,7 @@ replay-spec =
     get8-requires
     sender-of-requires
     part-requires
-    verdict-requires
+    verdict-of-requires
     slice-write-out
     add-at
     add-k
