@@ -1,6 +1,6 @@
 -- `verdict::hand_out` meets its contract: number 0 hands the packet out.
 -- Assumes nothing.
-use borrow.Author.Tests.{eq-eqb, ne-eqb}
+use Rattle.verdict.proofs.Laws.{hands, hands-nothing}
 use Rattle.verdict.proofs.hand_out.Statement.{statement}
 use Rattle.verdict.proofs.hand_out.Tie as tie
 use Rattle.verdict.proofs.hand_out.Reads as reads
@@ -8,11 +8,15 @@ use Rattle.verdict.proofs.hand_out.Lts as lts
 
 -- src/lib.rt:54:9
 returns : tie.Need-returns
-returns c = simp (eq-eqb _ 0 (c .if1 .taken))
+returns c =
+    let s = c .before .before in
+    hands (s .args .j) (s .args .h) (s .args .p) (c .if1 .taken)
 
 -- src/lib.rt:47:1
 returns-2 : tie.Need-returns-2
-returns-2 c = simp (ne-eqb _ 0 (c .if1 .left))
+returns-2 c =
+    let s = c .before .before in
+    hands-nothing (s .args .j) (s .args .h) (s .args .p) (c .if1 .left)
 
 pub hand-out-spec : {M : Type 1} → statement M
 hand-out-spec = tie.close (tie.spec returns returns-2)
