@@ -2,15 +2,15 @@
 -- the same answers other than 1, the same packets and the same session.
 -- Both lists are held against `play`, which knows no pieces: it is given each end's bytes and the order, and takes packet after packet.
 -- Assumes nothing.
-use Prim.Native.Nat.{ℕ, _+_, _-_, _≤_, _<_}
+use Prim.Native.Nat.{ℕ, _+_, _-_, _≤_}
 use native.Mathlib.Omega.{arith}
 use mathlib.Core.Path.{_≡_, refl, sym, ap, subst, _∙_}
 use mathlib.Core.Bool.{Bool, true, false, cond, not, _||_, true≢false}
 use mathlib.Core.List.{List, [], _∷_, _++_, append-assoc, append-nil}
-use mathlib.Core.Option.{Option, none, some}
+use mathlib.Core.Option.{Option, none}
 use mathlib.Core.Logic.{_⊎_, inl, inr}
-use lib.ListN.{length, take, drop, length-append, take-append-drop}
-use lib.Seq.{sets, length-sets, length-take-le, take-all, take-at, take-length, drop-append-seam}
+use lib.ListN.{length, take, drop, length-append}
+use lib.Seq.{length-take-le, take-at, take-length, drop-append-seam}
 use lib.Dec.{eqb, ltb}
 use borrow.Author.Tests.{eqb-true, ne-eqb, le-ltb}
 use borrow.Table.Steps.{cases}
@@ -34,15 +34,15 @@ use Rattle.session.specs.Step.{deviceAfter, requestsAfter, nextFor, judged}
 use Rattle.claims.specs.Allowed.{among}
 use Rattle.claims.specs.Kept.{kept-plain}
 use Rattle.roundtrip.specs.Cut.{Cut, more, bad, whole, cutOf}
-use Rattle.roundtrip.specs.Told.{IsWhole, whole-is, IsBad, bad-is, whole-fits}
-use Rattle.wire.specs.Wire.{usbredir, laws}
+use Rattle.roundtrip.specs.Told.{IsWhole, whole-is, IsBad, bad-is}
+use Rattle.wire.specs.Wire.{usbredir}
 use Rattle.frame.specs.Frame.{headSize, headNumber, cutAt, completed}
 use Rattle.verdict.specs.Verdict.{Told, stoppedNow, refusedAs, verdictOf}
 use Rattle.gate.specs.Offer.{heldOf, heldAs, heldBytes, isWaiting, heldWhole, barred, Outcome, unmoved, kept, headerRefused, packetTaken, byCut, offerOf, Whole}
-use Rattle.gate.specs.Laws.{front-is, completed-front, completed-length, more-few, whole-here, header-here, Ready, ready, held-few}
+use Rattle.gate.specs.Laws.{front-is, more-few, whole-here, header-here, Ready, ready}
 use Rattle.demands.specs.Numbers.{header-numbers, wire-numbers, session-numbers}
 use Rattle.demands.specs.Demand1.{demand-1}
-use Rattle.demands.specs.Kept.{whole-number, SameHeader, header-behind, header-front}
+use Rattle.demands.specs.Kept.{whole-number, kept-front, header-behind, header-front}
 
 -- ---- runs of reader calls
 
@@ -239,14 +239,6 @@ module _ (l : Link) (a r : List ℕ) (n : ℕ) where
       (simp (le-ltb (length b) (headSize l b) h, q, ne-eqb n 0 (w .refused)), g .size ∙ f .size)
 
 -- ---- one call
-
--- a piece behind what is held
-kept-front : (hold piece : List ℕ) (held : ℕ) → held + length piece ≤ length hold → take (held + length piece) (sets hold held piece) ≡ take held hold ++ piece
-kept-front hold piece held h =
-    let w : Whole hold piece held (held + length piece) = record { room = h; begun = omega arith; there = omega arith } in
-    let m : held + length piece - held ≡ length piece = omega arith in
-    subst (λ (p : List ℕ). take (held + length piece) (sets hold held p) ≡ take held hold ++ p) (ap (λ (k : ℕ). take k piece) m ∙ take-length piece)
-    (completed-front hold piece held (held + length piece) w)
 
 -- a verdict's number ends a packet
 verdict-ends : (d : Side) (s : Session) (b : List ℕ) (n : ℕ) → cutAt (linkOf d s) b ≡ whole n → ends (verdictOf (heldAs d 0 s) d (take n b) .number) ≡ true

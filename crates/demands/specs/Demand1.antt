@@ -1,13 +1,13 @@
 -- Demand 1: every call gets a number of document 01, takes no more than its piece, and on refusal changes no endpoint, stream or request;
 -- a refused write puts no byte out. That no call strays outside its memory is the checker's own condition on every access.
 -- Assumes nothing.
-use Prim.Native.Nat.{ℕ, _+_, _-_, _≤_}
+use Prim.Native.Nat.{ℕ, _+_, _≤_}
 use native.Mathlib.Omega.{arith}
-use mathlib.Core.Path.{_≡_, refl, sym, ap, subst, _∙_}
+use mathlib.Core.Path.{_≡_, refl, sym, subst}
 use mathlib.Core.Bool.{Bool, true, false, cond, not, _&&_, _||_}
 use mathlib.Core.List.{List, [], _∷_, _++_}
-use lib.ListN.{length, take, drop}
-use lib.Seq.{sets, length-sets}
+use lib.ListN.{length, take}
+use lib.Seq.{length-sets}
 use lib.Dec.{eqb, ltb}
 use borrow.Author.Tests.{eqb-true, ne-eqb}
 use borrow.Table.Steps.{cases}
@@ -20,14 +20,13 @@ use Rattle.kinds.specs.Codec.{decode, encode, orNext, readNumber, bodyLength, p
 use Rattle.events.specs.Event.{eventOf}
 use Rattle.session.specs.declared.Session.{Session}
 use Rattle.session.specs.Session.{linkOf, unfit}
-use Rattle.session.specs.Step.{judged}
 use Rattle.claims.specs.Allowed.{among}
 use Rattle.claims.specs.Steps.{refused}
 use Rattle.roundtrip.specs.Cut.{Cut, more, bad, whole}
 use Rattle.roundtrip.specs.Told.{IsBad, bad-is}
 use Rattle.wire.specs.Wire.{usbredir}
-use Rattle.frame.specs.Frame.{headSize, headNumber, cutAt}
-use Rattle.verdict.specs.Verdict.{Told, stoppedNow, refusedAs, verdictOf}
+use Rattle.frame.specs.Frame.{headSize, cutAt}
+use Rattle.verdict.specs.Verdict.{stoppedNow, refusedAs, verdictOf}
 use Rattle.gate.specs.Offer.{heldOf, heldAs, heldBytes, heldWhole, isWaiting, barred, Outcome, byCut, offerOf, Whole}
 use Rattle.gate.specs.Write.{shut, writeBy, output, outputSize}
 use Rattle.gate.specs.Laws.{completed-length, whole-here, header-here, Ready, ready, held-few}

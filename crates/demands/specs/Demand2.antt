@@ -4,15 +4,14 @@
 use Prim.Native.Nat.{ℕ}
 use native.Mathlib.Omega.{arith}
 use mathlib.Core.Path.{_≡_, refl, sym, ap, _∙_}
-use mathlib.Core.Bool.{Bool, true, false, cond, true≢false}
-use mathlib.Core.List.{List, [], _∷_, _++_}
+use mathlib.Core.Bool.{true, false, true≢false}
+use mathlib.Core.List.{List, _++_}
 use mathlib.Core.Logic.{_↔_, _⊎_}
-use lib.ListN.{length, take}
+use lib.ListN.{take}
 use lib.Dec.{eqb}
-use borrow.Author.Tests.{eqb-true, ne-eqb}
+use borrow.Author.Tests.{eqb-true}
 use borrow.Table.Steps.{cases}
 use Rattle.header.specs.declared.Side.{Side}
-use Rattle.header.specs.declared.Link.{Link}
 use Rattle.kinds.specs.Content.{Content}
 use Rattle.kinds.specs.Number.{wireNumber}
 use Rattle.kinds.specs.Codec.{decode, readNumber}
@@ -28,7 +27,7 @@ use Rattle.roundtrip.specs.Told.{bad-is}
 use Rattle.wire.specs.Wire.{usbredir}
 use Rattle.frame.specs.Frame.{cutAt}
 use Rattle.verdict.specs.Verdict.{Told, verdictOf}
-use Rattle.gate.specs.Offer.{heldOf, heldAs, heldBytes, barred, packetTaken, byCut, offerOf}
+use Rattle.gate.specs.Offer.{heldAs, heldBytes, barred, packetTaken, byCut, offerOf}
 use Rattle.gate.specs.Laws.{Ready, ready, fit-is}
 use Rattle.demands.specs.Kept.{whole-number}
 use Rattle.demands.specs.Demand3.{offer-barred, offer-open, verdict-open}

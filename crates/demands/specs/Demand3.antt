@@ -1,46 +1,41 @@
 -- Demand 3, of the reader and the writer that the contracts of `gate::offer` and `gate::write` cite: one theorem about lists.
 -- The general theorem (`roundtrip/specs/Demand3.antt`) asks laws of one call; here the reader and the writer are shown to have them.
 -- Assumes nothing.
-use Prim.Native.Nat.{ℕ, _+_, _-_, _^_, _≤_, _<_}
+use Prim.Native.Nat.{ℕ, _+_, _-_, _≤_}
 use native.Mathlib.Omega.{arith}
 use mathlib.Core.Path.{_≡_, refl, sym, ap, subst, _∙_}
-use mathlib.Core.Bool.{Bool, true, false, cond, not, _&&_, _||_, true≢false}
+use mathlib.Core.Bool.{Bool, true, false, cond, _&&_}
 use mathlib.Core.List.{List, [], _∷_, _++_}
 use mathlib.Core.Option.{Option, none, some}
-use lib.ListN.{length, take, drop, length-append}
-use lib.Seq.{sets, length-sets, length-take-le, take-all, take-append-seam}
-use lib.Dec.{eqb, ltb, leb}
-use borrow.Author.Tests.{eqb-true, eq-eqb, ne-eqb, le-ltb}
-use borrow.Table.Steps.{cases}
+use lib.ListN.{length, take, drop}
+use lib.Seq.{sets, length-sets, length-take-le, take-append-seam}
+use lib.Dec.{eqb, ltb}
+use borrow.Author.Tests.{ne-eqb, le-ltb}
 use Rattle.header.specs.declared.Side.{Side}
 use Rattle.header.specs.declared.Side.the-variants.{Guest, Host}
 use Rattle.header.specs.declared.Link.{Link}
-use Rattle.header.specs.Link.{passed, own, sharedSet}
-use Rattle.kinds.specs.Content.{Value, Content}
-use Rattle.kinds.specs.Number.{wireNumber}
-use Rattle.kinds.specs.Codec.{decode, encode, orNext, readNumber, packetNumber, writeNumber, written, writtenSize, Accepted}
+use Rattle.header.specs.Link.{passed, own}
+use Rattle.kinds.specs.Content.{Content}
+use Rattle.kinds.specs.Codec.{decode, encode, readNumber, packetNumber, writeNumber, written, writtenSize, Accepted}
 use Rattle.kinds.specs.RoundTrip.{both-zero}
 use Rattle.decoder.specs.Reading.{Handed, readOf}
-use Rattle.events.specs.declared.Event.{Event}
 use Rattle.events.specs.Event.{eventOf}
-use Rattle.checks.specs.Checks.{Check, firstOf, checks, matchOf, numberFor}
 use Rattle.session.specs.declared.Session.{Session}
 use Rattle.session.specs.Session.{linkOf, unfit}
 use Rattle.session.specs.Step.{judged}
 use Rattle.claims.specs.Kept.{Sized, kept-plain}
-use Rattle.roundtrip.specs.Cut.{Cut, more, bad, whole}
-use Rattle.roundtrip.specs.Wire.{Wire, WireLaws, cut}
-use Rattle.roundtrip.specs.Reader.{Answer, Reader, comesOut, Kept, Stopped, Part, Full, Open, ReaderLaws, Writer, WriterLaws, Start, Demand3}
+use Rattle.roundtrip.specs.Cut.{more, whole}
+use Rattle.roundtrip.specs.Reader.{Answer, Reader, comesOut, Kept, Stopped, Part, Full, Open, ReaderLaws, Writer, WriterLaws, Demand3}
 use Rattle.roundtrip.specs.Demand3.{demand3}
-use Rattle.wire.specs.Wire.{usbredir, laws, Unshared, unshared-refused}
+use Rattle.wire.specs.Wire.{usbredir, laws, unshared-refused}
 use Rattle.frame.specs.Frame.{cutAt, completed}
 use Rattle.verdict.specs.Verdict.{Told, verdictOf}
-use Rattle.gate.specs.Offer.{heldOf, heldAs, heldBytes, heldWhole, isWaiting, barred, Outcome, unmoved, kept, packetTaken, byCut, offerOf, Whole}
+use Rattle.gate.specs.Offer.{heldOf, heldAs, heldBytes, heldWhole, isWaiting, barred, Outcome, unmoved, kept, packetTaken, byCut, offerOf}
 use Rattle.encoder.specs.declared.Written.{Written}
 use Rattle.gate.specs.Write.{shut, writeBy, output, outputSize, WritesBy}
-use Rattle.gate.specs.Laws.{completed-length, completed-front, more-few, whole-here, Ready, not-barred, Fit, fit-is, is-fit, held-few}
+use Rattle.gate.specs.Laws.{completed-length, more-few, Ready, not-barred, fit-is, is-fit, held-few}
 use Rattle.demands.specs.Numbers.{session-numbers}
-use Rattle.demands.specs.Kept.{opposite, whole-number, Sound, Keeps, offer-keeps}
+use Rattle.demands.specs.Kept.{opposite, kept-front, Sound, Keeps, offer-keeps}
 
 -- ---- the reader of a direction
 
@@ -196,11 +191,7 @@ part-call from x piece o e =
     let r : Ready from s (x .hold) = is-ready from x o in
     let few = more-few (linkOf from s) (x .hold) piece (heldOf from s) (r .room) (held-few from s (r .fit)) e in
     let q : offerOf from s (x .hold) piece ≡ kept from s (x .hold) piece = offer-open from s (x .hold) piece r ∙ ap (byCut from s (x .hold) piece) e in
-    let w : Whole (x .hold) piece (heldOf from s) (heldOf from s + length piece) = record { room = omega (arith, r .room); begun = omega arith; there = omega arith } in
-    let m : heldOf from s + length piece - heldOf from s ≡ length piece = omega arith in
-    let f : take (heldOf from s + length piece) (sets (x .hold) (heldOf from s) piece) ≡ heldBytes from s (x .hold) ++ piece =
-    subst (λ (p : List ℕ). take (heldOf from s + length piece) (sets (x .hold) (heldOf from s) p) ≡ heldBytes from s (x .hold) ++ p) (ap (λ (k : ℕ). take k piece) m ∙ take-all (length piece) piece (omega arith))
-    (completed-front (x .hold) piece (heldOf from s) (heldOf from s + length piece) w) in
+    let f : take (heldOf from s + length piece) (sets (x .hold) (heldOf from s) piece) ≡ heldBytes from s (x .hold) ++ piece = kept-front (x .hold) piece (heldOf from s) (omega (arith, r .room)) in
     record {
       number = ap (λ (p : Outcome). p .number) q;
       taken = ap (λ (p : Outcome). p .taken) q;

@@ -1,14 +1,14 @@
 -- What every reader call keeps, once both hellos have passed: the hellos, that 43 does not refuse the session, the lengths of its tables,
 -- and what the other direction holds.
 -- Assumes nothing.
-use Prim.Native.Nat.{ℕ, _+_, _≤_, _<_}
+use Prim.Native.Nat.{ℕ, _+_, _-_, _≤_}
 use native.Mathlib.Omega.{arith}
 use mathlib.Core.Path.{_≡_, refl, sym, ap, subst, _∙_}
 use mathlib.Core.Bool.{Bool, true, false, cond, true≢false}
-use mathlib.Core.List.{List, [], _++_}
+use mathlib.Core.List.{List, _++_}
 use lib.ListN.{length, take, drop, take-append-drop}
-use lib.Seq.{length-take-le}
-use lib.Dec.{eqb, ltb}
+use lib.Seq.{sets, length-take-le, take-length}
+use lib.Dec.{eqb}
 use borrow.Author.Tests.{eqb-true, eq-eqb, le-ltb}
 use borrow.Table.Steps.{cases}
 use Rattle.header.specs.declared.Side.{Side}
@@ -16,14 +16,14 @@ use Rattle.header.specs.declared.Side.the-variants.{Guest, Host}
 use Rattle.header.specs.declared.Hello.{Hello}
 use Rattle.header.specs.declared.Link.{Link}
 use Rattle.header.specs.Link.{passed}
-use Rattle.header.specs.Header.{kindOf, lengthOf, headerSize, headerNumber}
+use Rattle.header.specs.Header.{kindOf, lengthOf}
 use Rattle.kinds.specs.Content.{Content}
 use Rattle.kinds.specs.Number.{wireNumber}
-use Rattle.kinds.specs.Codec.{decode, orNext, readNumber}
+use Rattle.kinds.specs.Codec.{decode, readNumber}
 use Rattle.events.specs.declared.Event.{Event}
 use Rattle.events.specs.Event.{eventOf}
 use Rattle.session.specs.declared.Session.{Session}
-use Rattle.session.specs.Session.{linkOf, unfit}
+use Rattle.session.specs.Session.{linkOf}
 use Rattle.session.specs.Step.{judged}
 use Rattle.claims.specs.Kept.{Sized, kept-ids, kept-control, event-control, kept-lengths, kept-hellos, kept-plain}
 use Rattle.roundtrip.specs.Cut.{Cut, more, bad, whole}
@@ -31,8 +31,8 @@ use Rattle.roundtrip.specs.Told.{IsWhole, whole-is}
 use Rattle.wire.specs.Wire.{usbredir, laws}
 use Rattle.frame.specs.Frame.{headSize, headNumber, cutAt}
 use Rattle.verdict.specs.Verdict.{stoppedNow, refusedAs, verdictOf}
-use Rattle.gate.specs.Offer.{heldOf, heldAs, heldBytes, barred, Outcome, byCut, offerOf}
-use Rattle.gate.specs.Laws.{FitCount, Fit, is-fit, Ready, ready, more-few, held-few}
+use Rattle.gate.specs.Offer.{heldOf, heldAs, heldBytes, barred, byCut, offerOf, Whole}
+use Rattle.gate.specs.Laws.{completed-front, FitCount, Fit, Ready, ready, more-few, held-few}
 
 abbrev pub opposite : Side → Side
 opposite Guest = Host
@@ -72,6 +72,15 @@ whole-number l b n e =
     let h : headSize l t ≤ length t = omega (arith, w .size, f .size) in
     let z : length t ≡ headSize l t + lengthOf t = omega (arith, w .size, f .size, f .says) in
     simp (le-ltb (length t) (headSize l t) h, f .number ∙ w .header, eq-eqb (length t) (headSize l t + lengthOf t) z)
+
+-- ---- a piece that is kept stands behind what is held
+
+pub kept-front : (hold piece : List ℕ) (held : ℕ) → held + length piece ≤ length hold → take (held + length piece) (sets hold held piece) ≡ take held hold ++ piece
+kept-front hold piece held h =
+    let w : Whole hold piece held (held + length piece) = record { room = h; begun = omega arith; there = omega arith } in
+    let m : held + length piece - held ≡ length piece = omega arith in
+    subst (λ (p : List ℕ). take (held + length piece) (sets hold held p) ≡ take held hold ++ p) (ap (λ (k : ℕ). take k piece) m ∙ take-length piece)
+    (completed-front hold piece held (held + length piece) w)
 
 -- ---- what is kept
 

@@ -1,23 +1,22 @@
 -- What bytes are, case by case, in the values that the code has: the header's size, its number, and the length that it says.
 -- Assumes nothing.
-use mathlib.Core.Path.{_≡_, refl, sym, ap, ap₂, _∙_}
-use mathlib.Core.Bool.{Bool, true, false, cond}
+use mathlib.Core.Path.{_≡_, sym, ap, ap₂, _∙_}
+use mathlib.Core.Bool.{true, false}
 use mathlib.Core.List.{List, _++_}
 use Prim.Native.Nat.{ℕ, suc, _+_, _-_, _*_, _≤_, _<_}
 use native.Mathlib.Omega.{arith}
 use lib.ListN.{length, getD, take, length-append}
 use lib.Seq.{sets, getD-append-add}
-use lib.Dec.{ltb, eqb}
+use lib.Dec.{eqb}
 use borrow.Author.Tests.{lt-ltb, le-ltb, ne-eqb}
 use Rattle.number.specs.Little.{le}
 use Rattle.header.specs.declared.Link.{Link}
 use Rattle.header.specs.Link.{idWidth}
 use Rattle.header.specs.Laws.{id-widths}
 use Rattle.header.specs.Header.{kindOf, lengthOf, headerSize, headerNumber}
-use Rattle.roundtrip.specs.Cut.{Cut, more, bad, whole, cutOf}
-use Rattle.frame.specs.declared.Cut.{Cut as Found}
+use Rattle.roundtrip.specs.Cut.{cutOf}
 use Rattle.frame.specs.declared.Cut.the-variants.{More, Refused, Whole}
-use Rattle.frame.specs.Frame.{headSize, headNumber, cutAt, found, cutFor, completed}
+use Rattle.frame.specs.Frame.{headSize, headNumber, cutFor, completed}
 
 module _ (l : Link) (a b : List ℕ) (kind len w : ℕ) (ek : kind ≡ kindOf (a ++ b)) (el : len ≡ lengthOf (a ++ b)) (ew : w ≡ idWidth l kind) where
   size-is : headSize l (a ++ b) ≡ 8 + w

@@ -7,7 +7,6 @@ use mathlib.Core.Bool.{Bool, true, false, cond, _||_}
 use mathlib.Core.List.{List, [], _++_, append-nil}
 use lib.ListN.{length, take}
 use lib.Seq.{sets}
-use lib.Dec.{eqb}
 use borrow.Author.Tests.{ne-eqb, le-ltb}
 use Rattle.header.specs.declared.Side.{Side}
 use Rattle.header.specs.declared.Link.{Link}
@@ -17,13 +16,12 @@ use Rattle.roundtrip.specs.Cut.{Cut, more, bad, whole}
 use Rattle.frame.specs.declared.Cut.{Cut as Found}
 use Rattle.frame.specs.declared.Cut.the-variants.{More, Refused, Whole as WholeCut}
 use Rattle.frame.specs.declared.Place.{Place}
-use Rattle.frame.specs.Frame.{headSize, cutAt, isMore, found, cutFor, completed, placeFor, bytesAt}
+use Rattle.frame.specs.Frame.{headSize, cutAt, found, cutFor, completed, placeFor, bytesAt}
 use Rattle.verdict.specs.declared.Verdict.{Verdict}
 use Rattle.verdict.specs.declared.Handed.the-variants.{Nothing}
 use Rattle.verdict.specs.Verdict.{Told, stoppedNow, verdictOf, tells}
-use Rattle.gate.specs.declared.Answer.{Answer}
 use Rattle.gate.specs.declared.Offered.{Offered}
-use Rattle.gate.specs.Offer.{heldOf, heldAs, heldBytes, isWaiting, heldWhole, barred, Outcome, unmoved, kept, headerRefused, packetTaken, byCut, offerOf, outcome, withoutPacket, Whole}
+use Rattle.gate.specs.Offer.{heldOf, heldAs, heldBytes, isWaiting, heldWhole, barred, Outcome, kept, headerRefused, packetTaken, byCut, offerOf, outcome, withoutPacket, Whole}
 use Rattle.gate.specs.Laws.{lies, more-few, whole-here, Ready, ready, held-few}
 
 -- ---- what is found tells the cut

@@ -1,9 +1,9 @@
 -- A reader call: its number, the bytes that it takes of its piece, the session and the holding buffer after it, and what it hands out.
 -- Assumes nothing: these are definitions.
 use Prim.Native.Nat.{ℕ, _+_, _-_, _≤_}
-use mathlib.Core.Bool.{Bool, true, false, cond, not, _&&_, _||_}
+use mathlib.Core.Bool.{Bool, cond, not, _&&_, _||_}
 use mathlib.Core.List.{List, [], _++_}
-use mathlib.Core.Option.{Option, none, some}
+use mathlib.Core.Option.{Option, none}
 use lib.ListN.{length, take, drop}
 use lib.Seq.{sets}
 use lib.Dec.{eqb, ltb}
@@ -23,7 +23,6 @@ use Rattle.frame.specs.Frame.{headSize, cutAt, isMore, completed, placeFor, byt
 use Rattle.verdict.specs.Verdict.{Told, stoppedNow, verdictOf, handedAs}
 use Rattle.verdict.specs.declared.Handed.{Handed as CodeHanded}
 use Rattle.verdict.specs.declared.Handed.the-variants.{Nothing, Passed}
-use Rattle.gate.specs.declared.Answer.{Answer}
 use Rattle.gate.specs.declared.Offered.{Offered}
 
 -- ---- the held bytes of a direction: "Bytes of an unfinished packet are kept at its front"

@@ -1,9 +1,7 @@
 -- The numbers of a script, packet by packet.
 -- Assumes nothing.
-use mathlib.Core.Path.{_≡_, refl, sym, ap, _∙_}
-use mathlib.Core.Bool.{Bool, true, false, cond}
+use mathlib.Core.Path.{_≡_, refl, ap, _∙_}
 use mathlib.Core.List.{List, [], _∷_}
-use mathlib.Core.Option.{Option, none, some}
 use Prim.Native.Nat.{ℕ, zero, suc, _+_, _-_, _≤_, _<_}
 use native.Mathlib.Nat.{zero-add, add-zero, sub-zero}
 use native.Mathlib.Numerals.{add-one}
@@ -11,7 +9,6 @@ use native.Mathlib.Omega.{arith}
 use borrow.Author.Tests.{le-leb, lt-leb}
 use lib.ListN.{length, take, drop, set, length-set, length-drop}
 use lib.Seq.{sets, slice, take-length, drop-drop}
-use lib.Dec.{eqb}
 use Rattle.number.specs.Little.{le}
 use Rattle.header.specs.declared.Side.{Side}
 use Rattle.session.specs.declared.Session.{Session}

@@ -2,7 +2,7 @@
 -- Assumes nothing.
 use Prim.Native.Nat.{ℕ}
 use native.Mathlib.Omega.{arith}
-use mathlib.Core.Path.{_≡_, refl, sym, ap, _∙_}
+use mathlib.Core.Path.{_≡_, refl, sym, ap}
 use mathlib.Core.Bool.{Bool, true, false, cond}
 use mathlib.Core.List.{List}
 use mathlib.Core.Option.{Option, none, some}
@@ -29,7 +29,7 @@ use Rattle.session.specs.Session.{linkOf}
 use Rattle.session.specs.Step.{judged}
 use Rattle.verdict.specs.declared.Verdict.{Verdict}
 use Rattle.verdict.specs.declared.Handed.the-variants.{Nothing, Passed}
-use Rattle.verdict.specs.Verdict.{refusedAs, Told, verdictOf, handedAs, tells, judgedAs}
+use Rattle.verdict.specs.Verdict.{refusedAs, verdictOf, handedAs, tells, judgedAs}
 
 -- a reading that hands nothing has a number that is not 0
 handed-none : (t : Bool) (b : Handed) → none ≡ cond t (some b) none → t ≡ false

@@ -1,43 +1,35 @@
 -- `frame::byte_across` meets its contract: a byte of a, a byte of b, or neither.
 -- Assumes nothing.
-use mathlib.Core.Path.{_≡_, sym, ap, _∙_}
-use mathlib.Core.List.{List, _++_}
-use Prim.Native.Nat.{ℕ, _+_, _-_, _<_, _≤_}
+use mathlib.Core.Path.{sym}
+use mathlib.Core.List.{_++_}
+use Prim.Native.Nat.{_+_}
 use native.Mathlib.Omega.{arith}
-use lib.ListN.{length, getD, length-append, List·getD-append, List·getD-eq-default}
+use lib.ListN.{length-append, List·getD-append, List·getD-eq-default}
 use Rattle.frame.proofs.Cases.{beyond}
 use denote.Ref.{now}
 use borrow.Author.Needs.{needs}
 use Rattle.frame.proofs.byte_across.Statement.{statement}
 use Rattle.frame.proofs.byte_across.Tie as tie
-use Rattle.frame.proofs.byte_across.Reads as reads
-use Rattle.frame.proofs.byte_across.Lts as lts
 
--- src/lib.rt:35:16
 shared-slice-read-result : tie.Need-shared-slice-read-result
 shared-slice-read-result c = search needs
 
--- src/lib.rt:35:9
 returns : tie.Need-returns
 returns c =
     let s = c .before .before in
     sym (List·getD-append (now (s .args .a)) (now (s .args .b)) 0 (s .args .i) (c .before .if1 .taken))
 
--- src/lib.rt:37:13
 sub-j : tie.Need-sub-j
 sub-j c = search needs
 
--- src/lib.rt:38:22
 shared-slice-read-result-2 : tie.Need-shared-slice-read-result-2
 shared-slice-read-result-2 c = search needs
 
--- src/lib.rt:31:1
 returns-2 : tie.Need-returns-2
 returns-2 c =
     let s = c .before .before .before in
     beyond (now (s .args .a)) (now (s .args .b)) (s .args .i) (c .before .before .if1 .left)
 
--- src/lib.rt:31:1
 returns-3 : tie.Need-returns-3
 returns-3 c =
     let s = c .before .before in

@@ -3,85 +3,62 @@
 use mathlib.Core.Path.{_∙_}
 use mathlib.Core.List.{_++_}
 use denote.Ref.{now}
-use native.Mathlib.Omega.{arith}
 use Rattle.frame.proofs.Cases.{spelt}
 use borrow.Author.Needs.{needs}
 use Rattle.frame.proofs.get32_across.Statement.{statement}
 use Rattle.frame.proofs.get32_across.Tie as tie
-use Rattle.frame.proofs.get32_across.Reads as reads
-use Rattle.frame.proofs.get32_across.Lts as lts
-use Rattle.frame.proofs.byte_across.Reads as byte-across-reads
-use Rattle.frame.proofs.wide.Reads as wide-reads
 
--- src/lib.rt:52:19
 byte-across-requires : tie.Need-byte-across-requires
 byte-across-requires c κs = search needs
 
--- src/lib.rt:52:9
 wide-requires : tie.Need-wide-requires
 wide-requires c κs = search needs
 
--- src/lib.rt:53:37
 add-byte-across : tie.Need-add-byte-across
 add-byte-across c = search needs
 
--- src/lib.rt:53:19
 byte-across-requires-2 : tie.Need-byte-across-requires-2
 byte-across-requires-2 c κs = search needs
 
--- src/lib.rt:53:9
 wide-requires-2 : tie.Need-wide-requires-2
 wide-requires-2 c κs = search needs
 
--- src/lib.rt:54:37
 add-byte-across-2 : tie.Need-add-byte-across-2
 add-byte-across-2 c = search needs
 
--- src/lib.rt:54:19
 byte-across-requires-3 : tie.Need-byte-across-requires-3
 byte-across-requires-3 c κs = search needs
 
--- src/lib.rt:54:9
 wide-requires-3 : tie.Need-wide-requires-3
 wide-requires-3 c κs = search needs
 
--- src/lib.rt:55:37
 add-byte-across-3 : tie.Need-add-byte-across-3
 add-byte-across-3 c = search needs
 
--- src/lib.rt:55:19
 byte-across-requires-4 : tie.Need-byte-across-requires-4
 byte-across-requires-4 c κs = search needs
 
--- src/lib.rt:55:9
 wide-requires-4 : tie.Need-wide-requires-4
 wide-requires-4 c κs = search needs
 
--- src/lib.rt:56:34
 mul-result : tie.Need-mul-result
 mul-result c = search needs
 
--- src/lib.rt:56:29
 add-result : tie.Need-add-result
 add-result c = search needs
 
--- src/lib.rt:56:22
 mul-result-2 : tie.Need-mul-result-2
 mul-result-2 c = search needs
 
--- src/lib.rt:56:17
 add-result-2 : tie.Need-add-result-2
 add-result-2 c = search needs
 
--- src/lib.rt:56:10
 mul-result-3 : tie.Need-mul-result-3
 mul-result-3 c = search needs
 
--- src/lib.rt:56:5
 add-result-3 : tie.Need-add-result-3
 add-result-3 c = search needs
 
--- src/lib.rt:48:1
 returns : tie.Need-returns
 returns c =
     let s3 = c .before .before in

@@ -1,51 +1,39 @@
 -- `frame::lend` meets its contract: by cases of the place.
 -- Assumes nothing.
-use mathlib.Core.Path.{_≡_, refl, sym, ap, _∙_}
+use mathlib.Core.Path.{sym, ap, _∙_}
 use denote.Ref.{now}
 use Rattle.frame.specs.declared.Place.{Place}
 use Rattle.frame.specs.Frame.{bytesAt}
 use borrow.Author.Needs.{needs}
 use Rattle.frame.proofs.lend.Statement.{statement}
 use Rattle.frame.proofs.lend.Tie as tie
-use Rattle.frame.proofs.lend.Reads as reads
-use Rattle.frame.proofs.lend.Lts as lts
-use Rattle.number.proofs.part.Reads as part-reads
 
--- src/lib.rt:107:27
 enum-told : tie.Need-enum-told
 enum-told c = search needs
 
--- src/lib.rt:107:27
 part-requires : tie.Need-part-requires
 part-requires c κs = search needs
 
--- src/lib.rt:108:25
 enum-told-2 : tie.Need-enum-told-2
 enum-told-2 c = search needs
 
--- src/lib.rt:108:25
 part-requires-2 : tie.Need-part-requires-2
 part-requires-2 c κs = search needs
 
--- src/lib.rt:109:26
 enum-told-3 : tie.Need-enum-told-3
 enum-told-3 c = search needs
 
--- src/lib.rt:109:26
 part-requires-3 : tie.Need-part-requires-3
 part-requires-3 c κs = search needs
 
--- src/lib.rt:103:1
 returns : tie.Need-returns
 returns c = search needs
 
--- src/lib.rt:103:1
 returns-2 : tie.Need-returns-2
 returns-2 c =
     let s = c .before .before .before .before .before in
     c .part2 .ensures ∙ ap (λ (p : Place). bytesAt p (s .args .size) (now (s .args .piece)) (now (s .args .hold))) (sym (c .before .enum-told2 .given .1))
 
--- src/lib.rt:103:1
 returns-3 : tie.Need-returns-3
 returns-3 c =
     let s = c .before .before .before .before .before in

@@ -3,14 +3,10 @@
 use borrow.Author.Tests.{eq-eqb, ne-eqb}
 use Rattle.frame.proofs.place_of.Statement.{statement}
 use Rattle.frame.proofs.place_of.Tie as tie
-use Rattle.frame.proofs.place_of.Reads as reads
-use Rattle.frame.proofs.place_of.Lts as lts
 
--- src/lib.rt:81:1
 returns : tie.Need-returns
 returns c = rw (eq-eqb _ 0 (c .if1 .taken))
 
--- src/lib.rt:81:1
 returns-2 : tie.Need-returns-2
 returns-2 c = rw (ne-eqb _ 0 (c .if1 .left))
 

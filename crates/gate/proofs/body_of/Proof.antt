@@ -5,36 +5,25 @@ use Rattle.gate.proofs.Writing.{body-none, body-passed}
 use borrow.Author.Needs.{needs}
 use Rattle.gate.proofs.body_of.Statement.{statement}
 use Rattle.gate.proofs.body_of.Tie as tie
-use Rattle.gate.proofs.body_of.Reads as reads
-use Rattle.gate.proofs.body_of.Lts as lts
-use Rattle.gate.proofs.bytes_of.Reads as bytes-of-reads
-use Rattle.number.proofs.part.Reads as part-reads
 
--- src/lib.rt:233:9
 bytes-of-requires : tie.Need-bytes-of-requires
 bytes-of-requires c κs = search needs
 
--- src/lib.rt:236:28
 enum-told : tie.Need-enum-told
 enum-told c = search needs
 
--- src/lib.rt:236:28
 part-requires : tie.Need-part-requires
 part-requires c κs = search needs
 
--- src/lib.rt:237:24
 enum-known-handed : tie.Need-enum-known-handed
 enum-known-handed c = search needs
 
--- src/lib.rt:237:33
 part-requires-2 : tie.Need-part-requires-2
 part-requires-2 c κs = search needs
 
--- src/lib.rt:230:1
 returns : tie.Need-returns
 returns c = c .part .ensures ∙ body-none _ (c .before .enum-told .given .1)
 
--- src/lib.rt:230:1
 returns-2 : tie.Need-returns-2
 returns-2 c = body-passed _ (c .before .before .handed .given .1) (c .before .before .before .before .bytes-of .ensures) (c .part2 .ensures)
 

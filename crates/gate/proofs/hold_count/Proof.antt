@@ -3,15 +3,10 @@
 use borrow.Author.Needs.{needs}
 use Rattle.gate.proofs.hold_count.Statement.{statement}
 use Rattle.gate.proofs.hold_count.Tie as tie
-use Rattle.gate.proofs.hold_count.Reads as reads
-use Rattle.gate.proofs.hold_count.Lts as lts
-use Rattle.gate.proofs.with_count.Reads as with-count-reads
 
--- src/lib.rt:84:5
 with-count-requires : tie.Need-with-count-requires
 with-count-requires c κs = search needs
 
--- src/lib.rt:79:1
 returns : tie.Need-returns
 returns c = rw (c .with-count .ensures)
 

@@ -8,54 +8,37 @@ use Rattle.gate.proofs.Cases.{held-more, held-refused, held-full}
 use borrow.Author.Needs.{needs}
 use Rattle.gate.proofs.is_held_whole.Statement.{statement}
 use Rattle.gate.proofs.is_held_whole.Tie as tie
-use Rattle.gate.proofs.is_held_whole.Reads as reads
-use Rattle.gate.proofs.is_held_whole.Lts as lts
-use Rattle.frame.proofs.cut_of.Reads as cut-of-reads
-use Rattle.gate.proofs.held_of.Reads as held-of-reads
-use Rattle.number.proofs.part.Reads as part-reads
-use Rattle.session.proofs.link_of.Reads as link-of-reads
 
--- src/lib.rt:102:9
 link-of-requires : tie.Need-link-of-requires
 link-of-requires c κs = search needs
 
--- src/lib.rt:103:23
 held-of-requires : tie.Need-held-of-requires
 held-of-requires c κs = search needs
 
--- src/lib.rt:103:9
 part-requires : tie.Need-part-requires
 part-requires c κs = search needs
 
--- src/lib.rt:104:9
 part-requires-2 : tie.Need-part-requires-2
 part-requires-2 c κs = search needs
 
--- src/lib.rt:101:9
 cut-of-requires : tie.Need-cut-of-requires
 cut-of-requires c κs = search needs
 
--- src/lib.rt:107:22
 enum-told : tie.Need-enum-told
 enum-told c = search needs
 
--- src/lib.rt:108:31
 enum-told-2 : tie.Need-enum-told-2
 enum-told-2 c = search needs
 
--- src/lib.rt:109:26
 enum-told-3 : tie.Need-enum-told-3
 enum-told-3 c = search needs
 
--- src/lib.rt:98:1
 returns : tie.Need-returns
 returns c = held-more _ _ _ (c .before .before .before .before .before .before .link-of .ensures) (c .before .before .before .before .part .ensures ∙ ap (λ (n : ℕ). take n (now (c .before .before .before .before .before .before .before .before .args .hold))) (c .before .before .before .before .before .held-of .ensures)) (c .before .before .before .part2 .ensures) (c .before .before .cut-of .ensures) (c .enum-told .given .1)
 
--- src/lib.rt:98:1
 returns-2 : tie.Need-returns-2
 returns-2 c = held-refused _ _ _ (c .before .before .before .before .before .before .link-of .ensures) (c .before .before .before .before .part .ensures ∙ ap (λ (n : ℕ). take n (now (c .before .before .before .before .before .before .before .before .args .hold))) (c .before .before .before .before .before .held-of .ensures)) (c .before .before .before .part2 .ensures) (c .before .before .cut-of .ensures) (c .enum-told2 .given .1)
 
--- src/lib.rt:98:1
 returns-3 : tie.Need-returns-3
 returns-3 c = held-full _ _ _ (c .before .before .before .before .before .before .link-of .ensures) (c .before .before .before .before .part .ensures ∙ ap (λ (n : ℕ). take n (now (c .before .before .before .before .before .before .before .before .args .hold))) (c .before .before .before .before .before .held-of .ensures)) (c .before .before .before .part2 .ensures) (c .before .before .cut-of .ensures) (c .enum-told3 .given .1)
 

@@ -3,24 +3,16 @@
 use borrow.Author.Needs.{needs}
 use Rattle.gate.proofs.is_waiting.Statement.{statement}
 use Rattle.gate.proofs.is_waiting.Tie as tie
-use Rattle.gate.proofs.is_waiting.Reads as reads
-use Rattle.gate.proofs.is_waiting.Lts as lts
-use Rattle.header.proofs.has_passed.Reads as has-passed-reads
-use Rattle.header.proofs.own_hello_passed.Reads as own-hello-passed-reads
 
--- src/lib.rt:94:5
 own-hello-passed-requires : tie.Need-own-hello-passed-requires
 own-hello-passed-requires c κs = search needs
 
--- src/lib.rt:94:29
 has-passed-requires : tie.Need-has-passed-requires
 has-passed-requires c κs = search needs
 
--- src/lib.rt:94:49
 has-passed-requires-2 : tie.Need-has-passed-requires-2
 has-passed-requires-2 c κs = search needs
 
--- src/lib.rt:89:1
 returns : tie.Need-returns
 returns c = rw (c .before .before .own-hello-passed .ensures, c .before .has-passed .ensures, c .has-passed2 .ensures)
 

@@ -6,22 +6,16 @@ use Rattle.gate.specs.Offer.{countAs}
 use borrow.Author.Needs.{needs}
 use Rattle.gate.proofs.with_count.Statement.{statement}
 use Rattle.gate.proofs.with_count.Tie as tie
-use Rattle.gate.proofs.with_count.Reads as reads
-use Rattle.gate.proofs.with_count.Lts as lts
 
--- src/lib.rt:67:24
 enum-told : tie.Need-enum-told
 enum-told c = search needs
 
--- src/lib.rt:71:23
 enum-told-2 : tie.Need-enum-told-2
 enum-told-2 c = search needs
 
--- src/lib.rt:63:1
 returns : tie.Need-returns
 returns c = ap (λ (d : Side). countAs d (c .before .before .args .n) (c .before .before .args .held)) (sym (c .enum-told .given .1))
 
--- src/lib.rt:63:1
 returns-2 : tie.Need-returns-2
 returns-2 c = ap (λ (d : Side). countAs d (c .before .before .args .n) (c .before .before .args .held)) (sym (c .enum-told2 .given .1))
 

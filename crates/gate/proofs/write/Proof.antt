@@ -5,40 +5,27 @@ use Rattle.gate.proofs.Writing.{write-shut, write-open}
 use borrow.Author.Needs.{needs}
 use Rattle.gate.proofs.write.Statement.{statement}
 use Rattle.gate.proofs.write.Tie as tie
-use Rattle.gate.proofs.write.Reads as reads
-use Rattle.gate.proofs.write.Lts as lts
-use Rattle.encoder.proofs.write.Reads as write-reads
-use Rattle.gate.proofs.shut_by.Reads as shut-by-reads
-use Rattle.packet.proofs.is_hello.Reads as is-hello-reads
-use Rattle.session.proofs.link_of.Reads as link-of-reads
 
--- src/lib.rt:274:35
 is-hello-requires : tie.Need-is-hello-requires
 is-hello-requires c κs = search needs
 
--- src/lib.rt:274:9
 shut-by-requires : tie.Need-shut-by-requires
 shut-by-requires c κs = search needs
 
--- src/lib.rt:276:9
 returns : tie.Need-returns
 returns c =
     let s = c .before .before .before .before .before in
     write-shut (s .args .from) (s .args .s) (s .args .id) (s .args .p) (now (s .args .body)) (now (s .args .out)) (c .before .before .is-hello .ensures) (c .before .shut-by .ensures) (c .if1 .taken)
 
--- src/lib.rt:278:20
 link-of-requires : tie.Need-link-of-requires
 link-of-requires c κs = search needs
 
--- src/lib.rt:278:5
 write-requires : tie.Need-write-requires
 write-requires c κs = search needs
 
--- src/lib.rt:271:1
 same-length : tie.Need-same-length
 same-length c = search needs
 
--- src/lib.rt:271:1
 returns-2 : tie.Need-returns-2
 returns-2 c =
     let s = c .before .before .before .before .before .before .before .before .before .before in

@@ -14,8 +14,6 @@ use Rattle.packet.proofs.Packet as P
 use borrow.Author.Needs.{needs}
 use Rattle.packet.proofs.part_named.Statement.{statement}
 use Rattle.packet.proofs.part_named.Tie as tie
-use Rattle.packet.proofs.part_named.Reads as reads
-use Rattle.packet.proofs.part_named.Lts as lts
 
 -- the places of the kinds that name none
 abbrev unnaming : List ℕ
@@ -56,79 +54,60 @@ unnamed (Iso a b c d) key = absurd (miss unnaming _ tt key)
 unnamed (Interrupt a b c d) key = absurd (miss unnaming _ tt key)
 unnamed (BufferedBulk a b c d e) key = absurd (miss unnaming _ tt key)
 
--- src/lib.rt:172:25
 enum-known-p : tie.Need-enum-known-p
 enum-known-p c = search needs
 
--- src/lib.rt:173:44
 enum-known-p-2 : tie.Need-enum-known-p-2
 enum-known-p-2 c = search needs
 
--- src/lib.rt:174:33
 enum-known-p-3 : tie.Need-enum-known-p-3
 enum-known-p-3 c = search needs
 
--- src/lib.rt:175:26
 enum-known-p-4 : tie.Need-enum-known-p-4
 enum-known-p-4 c = search needs
 
--- src/lib.rt:176:110
 enum-known-p-5 : tie.Need-enum-known-p-5
 enum-known-p-5 c = search needs
 
--- src/lib.rt:177:70
 enum-known-p-6 : tie.Need-enum-known-p-6
 enum-known-p-6 c = search needs
 
--- src/lib.rt:178:58
 enum-known-p-7 : tie.Need-enum-known-p-7
 enum-known-p-7 c = search needs
 
--- src/lib.rt:179:64
 enum-known-p-8 : tie.Need-enum-known-p-8
 enum-known-p-8 c = search needs
 
--- src/lib.rt:180:78
 enum-known-p-9 : tie.Need-enum-known-p-9
 enum-known-p-9 c = search needs
 
--- src/lib.rt:168:1
 returns : tie.Need-returns
 returns c = ap partNamed (sym (c .before .p .given .1))
 
--- src/lib.rt:168:1
 returns-2 : tie.Need-returns-2
 returns-2 c = ap partNamed (sym (c .before .p2 .given .1))
 
--- src/lib.rt:168:1
 returns-3 : tie.Need-returns-3
 returns-3 c = ap partNamed (sym (c .before .p3 .given .1))
 
--- src/lib.rt:168:1
 returns-4 : tie.Need-returns-4
 returns-4 c = ap partNamed (sym (c .before .p4 .given .1))
 
--- src/lib.rt:168:1
 returns-5 : tie.Need-returns-5
 returns-5 c = ap partNamed (sym (c .before .p5 .given .1))
 
--- src/lib.rt:168:1
 returns-6 : tie.Need-returns-6
 returns-6 c = ap partNamed (sym (c .before .p6 .given .1))
 
--- src/lib.rt:168:1
 returns-7 : tie.Need-returns-7
 returns-7 c = ap partNamed (sym (c .before .p7 .given .1))
 
--- src/lib.rt:168:1
 returns-8 : tie.Need-returns-8
 returns-8 c = ap partNamed (sym (c .before .p8 .given .1))
 
--- src/lib.rt:168:1
 returns-9 : tie.Need-returns-9
 returns-9 c = ap partNamed (sym (c .before .p9 .given .1))
 
--- src/lib.rt:168:1
 returns-10 : tie.Need-returns-10
 returns-10 c = unnamed (c .before .args .p) (c .match .keys10)
 

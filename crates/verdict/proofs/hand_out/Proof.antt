@@ -3,16 +3,12 @@
 use Rattle.verdict.proofs.Laws.{hands, hands-nothing}
 use Rattle.verdict.proofs.hand_out.Statement.{statement}
 use Rattle.verdict.proofs.hand_out.Tie as tie
-use Rattle.verdict.proofs.hand_out.Reads as reads
-use Rattle.verdict.proofs.hand_out.Lts as lts
 
--- src/lib.rt:54:9
 returns : tie.Need-returns
 returns c =
     let s = c .before .before in
     hands (s .args .j) (s .args .h) (s .args .p) (c .if1 .taken)
 
--- src/lib.rt:47:1
 returns-2 : tie.Need-returns-2
 returns-2 c =
     let s = c .before .before in

@@ -4,19 +4,13 @@ use borrow.Author.Tests.{eq-eqb, ne-eqb}
 use borrow.Author.Needs.{needs}
 use Rattle.verdict.proofs.refuse.Statement.{statement}
 use Rattle.verdict.proofs.refuse.Tie as tie
-use Rattle.verdict.proofs.refuse.Reads as reads
-use Rattle.verdict.proofs.refuse.Lts as lts
-use Rattle.verdict.proofs.stop.Reads as stop-reads
 
--- src/lib.rt:44:20
 stop-requires : tie.Need-stop-requires
 stop-requires c κs = search needs
 
--- src/lib.rt:41:1
 returns : tie.Need-returns
 returns c = rw (eq-eqb _ 0 (c .before .if1 .taken)) (c .stop .ensures)
 
--- src/lib.rt:41:1
 returns-2 : tie.Need-returns-2
 returns-2 c = rw (ne-eqb _ 0 (c .if1 .left))
 
