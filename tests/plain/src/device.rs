@@ -39,6 +39,11 @@ impl Device {
         }
     }
 
+    /// Rows 0 and 16 are control.
+    pub fn has_control_rows(&self) -> bool {
+        self.types[0] == CONTROL && self.types[16] == CONTROL
+    }
+
     pub fn row_type(&self, row: usize) -> u8 {
         self.types[row]
     }

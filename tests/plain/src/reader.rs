@@ -64,7 +64,10 @@ pub fn offer(session: &mut Session, from: Side, hold: &mut [u8], piece: &[u8]) -
     let side = from.index();
     let wide = session.is_wide();
     let own_hello = session.hello_passed(from);
-    if counts_unfit(session) || holds_too_much(&hold[..session.held[side]], wide, own_hello) {
+    if counts_unfit(session)
+        || session.tables_unfit()
+        || holds_too_much(&hold[..session.held[side]], wide, own_hello)
+    {
         return Answer::without_packet(43, 0);
     }
     if session.stopped {

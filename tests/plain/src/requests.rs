@@ -59,6 +59,23 @@ impl Requests {
         self.live == ALL
     }
 
+    /// Two live requests have one id.
+    pub fn ids_clash(&self) -> bool {
+        let mut rest = self.live;
+        while rest != 0 {
+            let id = self.places[rest.trailing_zeros() as usize].id;
+            rest &= rest - 1;
+            let mut others = rest;
+            while others != 0 {
+                if self.places[others.trailing_zeros() as usize].id == id {
+                    return true;
+                }
+                others &= others - 1;
+            }
+        }
+        false
+    }
+
     /// The place of the live request with an id. There is at most one.
     pub fn find(&self, id: u64) -> Option<usize> {
         places_in(self.live).find(|place| self.places[*place].id == id)

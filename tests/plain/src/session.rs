@@ -9,9 +9,6 @@ const SUCCESS: u8 = 0;
 const STALL: u8 = 4;
 
 /// One session between a guest and a host, both directions.
-///
-/// Only this crate writes it, so part of number 43 can't hold of it: no two live requests have one
-/// id, and rows 0 and 16 are control.
 #[derive(Clone, Debug)]
 pub struct Session {
     /// The first capability word of each side's hello, once it has passed.
@@ -44,6 +41,11 @@ impl Session {
             device: Device::start(),
             requests: Requests::start(),
         }
+    }
+
+    /// The part of 43 about requests and rows. Only this crate writes a session, so it never holds; it is asked as the rules say.
+    pub(crate) fn tables_unfit(&self) -> bool {
+        self.requests.ids_clash() || !self.device.has_control_rows()
     }
 
     pub fn is_stopped(&self) -> bool {
