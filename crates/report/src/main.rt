@@ -1,0 +1,210 @@
+// The report program: reads pieces from standard input, a line each, offers them to a session, and prints a line for each answer and then
+// the totals. It holds a part of the input and a part of the output, in buffers that do not grow.
+ghost use Prim.Native.Nat.{_+_, _≤_};
+ghost use mathlib.Core.Path.{_≡_};
+ghost use lib.ListN.{length, take, drop};
+ghost use lib.Seq.{sets};
+ghost use Rattle.report.specs.Program.{Fits, Prints, Writes, ReadsMore};
+use capture::form_totals;
+use libc::STDIN_FILENO;
+use libc::STDOUT_FILENO;
+use number::minimum;
+use session::Session;
+use session::fresh_session;
+use transcript::Next;
+use transcript::Totals;
+use transcript::next_line;
+use transcript::report_line;
+
+// The session and the totals; the unread bytes, from start to end of the input buffer, and whether no more come; the bytes of output that
+// are not written yet; and whether the input is over.
+struct State {
+    session: Session,
+    totals: Totals,
+    start: usize,
+    end: usize,
+    last: bool,
+    size: usize,
+    over: bool,
+}
+
+fn begin() -> State
+    ensures { λ r. ⌜ Fits r ⌝ }
+{
+    let session = fresh_session();
+    let totals = Totals {
+        passed: 0,
+        refused: 0,
+    };
+    State {
+        session,
+        totals,
+        start: 0,
+        end: 0,
+        last: false,
+        size: 0,
+        over: false,
+    }
+}
+
+// How many bytes a call of C's moved, of so many; none where it failed.
+fn moved(got: isize, most: usize) -> usize
+    ensures { λ r. ⌜ r ≤ most ⌝ }
+{
+    if got > 0 {
+        minimum(got as usize, most)
+    } else {
+        0
+    }
+}
+
+// Moves n bytes from start on to the front.
+fn shift(s: &mut [u8], start: usize, n: usize)
+    requires { ⌜ start + n ≤ length (now s) ⌝ }
+    ensures { λ _. ⌜ now (s .exit) ≡ sets (now (s .entry)) 0 (take n (drop start (now (s .entry)))) ⌝ }
+{
+    let mut i: usize = 0;
+    while i < n {
+        s[i] = s[start + i];
+        i += 1;
+    }
+}
+
+// Reads more behind the unread bytes, for which there is room. Where nothing comes, the input has ended.
+fn read_more(p: State, input: &mut [u8]) -> State
+    requires { ⌜ Fits p × (length (now input) ≡ 65536) × (p .end ≤ p .start + 4113) ⌝ }
+    ensures { λ r. ⌜ ReadsMore p (now (input .entry)) r (now (input .exit)) ⌝ }
+{
+    let start = p.start;
+    let n = p.end - start;
+    shift(input, start, n);
+    let room = input.len() - n;
+    let got = moved(libc::read(STDIN_FILENO, &mut input[n..]), room);
+    let mut next = p;
+    next.start = 0;
+    next.end = n + got;
+    next.last = got == 0;
+    next
+}
+
+// Writes all of s, or tells that a write failed.
+fn write_all(s: &[u8]) -> bool {
+    let mut done: usize = 0;
+    while done < s.len() {
+        let n = moved(libc::write(STDOUT_FILENO, &s[done..]), s.len() - done);
+        if n == 0 {
+            return false;
+        }
+        done = done + n;
+    }
+    true
+}
+
+// Writes the output, where it leaves no room for that of another line.
+fn write_much(p: State, out: &[u8]) -> State
+    requires { ⌜ p .size ≤ length (now out) ⌝ }
+    ensures { λ r. ⌜ Writes p r ⌝ }
+{
+    let size = p.size;
+    let mut next = p;
+    if 22528 < size {
+        next.size = 0;
+        next.over = p.over | !write_all(&out[..size]);
+    }
+    next
+}
+
+// Reports the line of k bytes with which the unread bytes begin.
+fn print_line(
+    p: State,
+    k: usize,
+    guest: &mut [u8],
+    host: &mut [u8],
+    input: &[u8],
+    out: &mut [u8],
+) -> State
+    requires { ⌜ Fits p × (length (now input) ≡ 65536) × (length (now out) ≡ 262144) × (p .start + k ≤ p .end) ⌝ }
+    ensures { λ r. ⌜ Prints p k (now (guest .entry)) (now (host .entry)) (now (input .entry)) (now (out .entry)) r (now (guest .exit)) (now (host .exit)) (now (out .exit)) ⌝ }
+{
+    let session = p.session;
+    let totals = p.totals;
+    let start = p.start;
+    let end = start + k;
+    let size = p.size;
+    let l = report_line(
+        session,
+        totals,
+        guest,
+        host,
+        &input[start..end],
+        &mut out[size..],
+    );
+    let r = l.reported;
+    let session = r.session;
+    let totals = r.totals;
+    let next = State {
+        session,
+        totals,
+        start: minimum(end + 1, p.end),
+        end: p.end,
+        last: p.last,
+        size: size + r.size,
+        over: l.bad,
+    };
+    write_much(next, out)
+}
+
+// A line is reported, or more is read, or the input is over.
+fn step(p: State, guest: &mut [u8], host: &mut [u8], input: &mut [u8], out: &mut [u8]) -> State
+    requires { ⌜ Fits p × (length (now input) ≡ 65536) × (length (now out) ≡ 262144) ⌝ }
+    ensures { λ r. ⌜ Fits r ⌝ }
+{
+    let start = p.start;
+    let end = p.end;
+    let n = next_line(&input[start..end], p.last);
+    match n {
+        Next::Line(k) => print_line(p, k, guest, host, input, out),
+        Next::Wait => {
+            if p.last {
+                let mut next = p;
+                next.over = true;
+                return next;
+            }
+            read_more(p, input)
+        }
+    }
+}
+
+// A proved loop has to end, and nothing says that the input does. So the loop counts its turns down, from a number that no run uses up.
+fn run(guest: &mut [u8], host: &mut [u8], input: &mut [u8], out: &mut [u8]) -> State
+    requires { ⌜ (length (now input) ≡ 65536) × (length (now out) ≡ 262144) ⌝ }
+    ensures { λ r. ⌜ Fits r ⌝ }
+{
+    let mut p = begin();
+    let mut turns: u64 = 18446744073709551615;
+    while (0 < turns) & !p.over {
+        p = step(p, guest, host, input, out);
+        turns -= 1;
+    }
+    p
+}
+
+// Prints the totals behind the output that is not written yet.
+fn print_totals(p: State, out: &mut [u8])
+    requires { ⌜ Fits p × (length (now out) ≡ 262144) ⌝ }
+{
+    let totals = p.totals;
+    let session = p.session;
+    let size = p.size;
+    let n = form_totals(out, size, totals.passed, totals.refused, session.stopped);
+    write_all(&out[..size + n]);
+}
+
+fn main() {
+    let mut guest = [0u8; 32784];
+    let mut host = [0u8; 32784];
+    let mut input = [0u8; 65536];
+    let mut out = [0u8; 262144];
+    let p = run(&mut guest, &mut host, &mut input, &mut out);
+    print_totals(p, &mut out);
+}

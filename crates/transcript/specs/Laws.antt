@@ -1,0 +1,129 @@
+-- What a call takes of its piece, and how long the lines of a piece can be.
+-- Assumes nothing.
+use Prim.Native.Nat.{ℕ, zero, suc, _+_, _-_, _*_, _≤_, _<_}
+use native.Mathlib.Omega.{arith}
+use mathlib.Core.Path.{_≡_, refl, sym, _∙_}
+use mathlib.Core.Bool.{Bool, true, false, cond, _||_, false≢true, true≢false}
+use mathlib.Core.List.{List, [], _∷_, _++_}
+use lib.ListN.{length, drop, length-append, length-drop}
+use lib.Seq.{length-take-le}
+use lib.Dec.{eqb, ltb}
+use borrow.Author.Tests.{eqb-true}
+use Rattle.header.specs.declared.Side.{Side}
+use Rattle.header.specs.declared.Link.{Link}
+use Rattle.session.specs.declared.Session.{Session}
+use Rattle.session.specs.Session.{linkOf, unfit}
+use Rattle.roundtrip.specs.Cut.{Cut, more, bad, whole}
+use Rattle.roundtrip.specs.Told.{more-less, more-head}
+use Rattle.wire.specs.Wire.{usbredir, laws}
+use Rattle.frame.specs.Frame.{cutAt, bytesAt}
+use Rattle.gate.specs.Offer.{heldOf, heldBytes, isWaiting, heldWhole, barred, Outcome, unmoved, byCut, offerOf}
+use Rattle.gate.specs.Laws.{Ready, ready, held-few, whole-here, header-here}
+use Rattle.capture.specs.Laws.{answer-short}
+use Rattle.transcript.specs.Piece.{givesLine, lineAt, lineFor, usedBy, Report, called, offered, reportBy}
+
+-- ---- one call
+
+-- a call takes no more than there is, and something where its answer has a line
+pub record Takes (o : Outcome) (piece : List ℕ) : Type 0 where
+  pub within : o .taken ≤ length piece
+  pub some : givesLine (o .number) ≡ true → 0 < o .taken
+
+-- 41, 43, 3 and 2 have no line
+silent : (a b c d : Bool) → eqb (cond a 41 (cond b 43 (cond c 3 (cond d 2 0)))) 0 ≡ false → givesLine (cond a 41 (cond b 43 (cond c 3 (cond d 2 0)))) ≡ false
+silent true b c d e = refl
+silent false true c d e = refl
+silent false false true d e = refl
+silent false false false true e = refl
+silent false false false false e = absurd (true≢false e)
+
+module _ (from : Side) (s : Session) (hold piece : List ℕ) where
+  barred-silent : eqb (barred from s hold) 0 ≡ false → givesLine (barred from s hold) ≡ false
+  unfolding barred
+  barred-silent e = silent (ltb (length hold) 32784) (unfit s || heldWhole from s hold) (s .stopped) (isWaiting (linkOf from s)) e
+
+  module _ (r : Ready from s hold) where
+    few : heldOf from s ≤ 32783
+    few = held-few from s (r .fit)
+
+    held : length (heldBytes from s hold) ≡ heldOf from s
+    held = length-take-le (heldOf from s) hold (omega (arith, r .room, few))
+
+    cut-takes : (c : Cut) → cutAt (linkOf from s) (heldBytes from s hold ++ piece) ≡ c → Takes (byCut from s hold piece c) piece
+    cut-takes more e = record { within = omega arith; some = λ g. absurd (false≢true g) }
+    cut-takes (bad n) e =
+        let w = header-here (linkOf from s) hold piece (heldOf from s) (r .room) few (r .begun) n e in
+        let l = more-head usbredir laws (linkOf from s) (heldBytes from s hold) piece (r .begun) n e in
+        record { within = omega (arith, w .there); some = λ g. omega (arith, l, held) }
+    cut-takes (whole n) e =
+        let w = whole-here (linkOf from s) hold piece (heldOf from s) (r .room) few (r .begun) n e in
+        let l = more-less usbredir laws (linkOf from s) (heldBytes from s hold) piece (r .begun) n e in
+        record { within = omega (arith, w .there); some = λ g. omega (arith, l, held) }
+
+  pub call-takes : Takes (offerOf from s hold piece) piece
+  unfolding offerOf
+  call-takes = go (eqb (barred from s hold) 0) refl
+    where
+      go : (b : Bool) → eqb (barred from s hold) 0 ≡ b
+          → Takes (cond b (byCut from s hold piece (cutAt (linkOf from s) (heldBytes from s hold ++ piece))) (unmoved s hold (barred from s hold))) piece
+      go true e = cut-takes (ready from s hold (eqb-true (barred from s hold) 0 e)) (cutAt (linkOf from s) (heldBytes from s hold ++ piece)) refl
+      go false e = record { within = omega arith; some = λ g. absurd (false≢true (sym (barred-silent e) ∙ g)) }
+
+-- so a call uses up no more than the rest, and some of a rest that is not empty
+pub used-within : (o : Outcome) (rest : List ℕ) → Takes o rest → usedBy o rest ≤ length rest
+used-within o rest t = go (givesLine (o .number))
+  where
+    go : (b : Bool) → cond b (o .taken) (length rest) ≤ length rest
+    go true = t .within
+    go false = omega arith
+
+pub used-some : (o : Outcome) (rest : List ℕ) → Takes o rest → 0 < length rest → 0 < usedBy o rest
+used-some o rest t h = go (givesLine (o .number)) refl
+  where
+    go : (b : Bool) → givesLine (o .number) ≡ b → 0 < cond b (o .taken) (length rest)
+    go true e = t .some e
+    go false e = h
+
+-- ---- a piece
+
+pub report-empty : (n : ℕ) (from : Side) (r : Report) → reportBy n from r [] ≡ r
+unfolding reportBy
+report-empty zero from r = refl
+report-empty (suc n) from r = refl
+
+pub report-more : (n : ℕ) (from : Side) (r : Report) (rest : List ℕ) → 0 < length rest
+    → reportBy (suc n) from r rest ≡ reportBy n from (called from r rest (offered from r rest)) (drop (usedBy (offered from r rest) rest) rest)
+unfolding reportBy
+report-more n from r [] h = absurd (omega arith)
+report-more n from r (b ∷ rest) h = refl
+
+-- calls for which nothing is left change nothing
+pub more-calls : (n m : ℕ) (from : Side) (r : Report) (rest : List ℕ) → length rest ≤ n → length rest ≤ m → reportBy n from r rest ≡ reportBy m from r rest
+unfolding reportBy
+more-calls zero m from r [] h k = sym (report-empty m from r)
+more-calls zero m from r (b ∷ rest) h k = absurd (omega arith)
+more-calls (suc n) zero from r [] h k = refl
+more-calls (suc n) zero from r (b ∷ rest) h k = absurd (omega arith)
+more-calls (suc n) (suc m) from r [] h k = refl
+more-calls (suc n) (suc m) from r (b ∷ rest) h k =
+    let o = offered from r (b ∷ rest) in
+    let l = length-drop (usedBy o (b ∷ rest)) (b ∷ rest) in
+    let u = used-some o (b ∷ rest) (call-takes from (r .session) (r .hold) (b ∷ rest)) (omega arith) in
+    more-calls n m from (called from r (b ∷ rest) o) (drop (usedBy o (b ∷ rest)) (b ∷ rest)) (omega (arith, l, u)) (omega (arith, l, u))
+
+pub line-short : (from : Side) (l : Link) (o : Outcome) (rest : List ℕ) → length (lineFor from l o rest) ≤ 117
+line-short from l o rest = go (givesLine (o .number))
+  where
+    go : (b : Bool) → length (cond b (lineAt from l (o .number) (bytesAt (o .place) (o .size) rest (o .hold))) []) ≤ 117
+    go true = answer-short from _ _ _ _
+    go false = omega arith
+
+-- a piece's lines have at most 117 bytes for each call, and there are no more calls than bytes
+pub lines-short : (n : ℕ) (from : Side) (r : Report) (rest : List ℕ) → length (reportBy n from r rest .lines) ≤ length (r .lines) + 117 * n
+unfolding reportBy
+lines-short zero from r rest = omega arith
+lines-short (suc n) from r [] = omega arith
+lines-short (suc n) from r (b ∷ rest) =
+    let o = offered from r (b ∷ rest) in
+    let l = lineFor from (linkOf from (r .session)) o (b ∷ rest) in
+    omega (arith, lines-short n from (called from r (b ∷ rest) o) (drop (usedBy o (b ∷ rest)) (b ∷ rest)), length-append (r .lines) l, line-short from (linkOf from (r .session)) o (b ∷ rest))

@@ -1,0 +1,5 @@
+pub mod Piece
+pub mod Input
+pub mod Laws
+pub mod Parts
+pub mod Examples
