@@ -1,5 +1,5 @@
 -- Cuts don't matter: two lists of reader calls in which each end's bytes are the same and packets become whole in the same order give
--- the same answers other than 1, the same packets and the same session.
+-- the same answers that end a packet, the same packets and the same session.
 -- Both lists are held against `play`, which knows no pieces: it is given each end's bytes and the order, and takes packet after packet.
 -- Assumes nothing.
 use Prim.Native.Nat.{ℕ, _+_, _-_, _≤_}
@@ -424,6 +424,23 @@ fits-next x c f = record { room = rooms (c .from) (answerTo x c .hold) (demand-1
     rooms Host hold q Guest = f .room Guest
     rooms Host hold q Host = rw q (f .room Host)
 
+-- "After any answer but 1, 2, 3, 41 or 43 the held count is 0."
+pub held-none : (d : Side) (s : Session) (hold piece : List ℕ) → ends (offerOf d s hold piece .number) ≡ true → heldOf d (offerOf d s hold piece .session) ≡ 0
+unfolding offerOf
+held-none d s hold piece =
+    cases (eqb (barred d s hold) 0)
+    (λ t. rw t (goes (cutAt (linkOf d s) (heldBytes d s hold ++ piece))))
+    (λ t. rw t (λ h. absurd (true≢false (sym h ∙ barred-silent d s hold (λ z. true≢false (sym (ap (λ (m : ℕ). eqb m 0) z) ∙ t))))))
+  where
+    none : (d : Side) (t : Session) → t .held ≡ heldAs d 0 s .held → heldOf d t ≡ 0
+    none Guest t q = λ i. q i .guest
+    none Host t q = λ i. q i .host
+
+    goes : (c : Cut) → ends (byCut d s hold piece c .number) ≡ true → heldOf d (byCut d s hold piece c .session) ≡ 0
+    goes more h = absurd (true≢false (sym h))
+    goes (bad n) h = none d (stoppedNow (heldAs d 0 s)) refl
+    goes (whole n) h = none d (verdictOf (heldAs d 0 s) d (take n (heldBytes d s hold ++ piece)) .session) (verdict-held (heldAs d 0 s) d (take n (heldBytes d s hold ++ piece)))
+
 -- ---- a run is what `play` makes of its bytes and its order
 
 -- each side's bytes: those held at first and those taken
@@ -514,7 +531,7 @@ pub record SameTraffic (x : Both) (cs₁ cs₂ : List Call) : Type 0 where
   pub taken : (d : Side) → bytesTaken d x cs₁ ≡ bytesTaken d x cs₂
   pub order : sides (endings x cs₁) ≡ sides (endings x cs₂)
 
--- they give the same answers other than 1, the same packets, the same session, and hold the same bytes
+-- they give the same answers that end a packet or stop at a header, the same packets, the same session, and hold the same bytes
 pub record SameResult (x : Both) (cs₁ cs₂ : List Call) : Type 0 where
   pub answers : endings x cs₁ ≡ endings x cs₂
   pub session : final x cs₁ .session ≡ final x cs₂ .session

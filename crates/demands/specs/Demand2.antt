@@ -1,20 +1,22 @@
 -- Demand 2, over the whole gate: a reader call answers 0 exactly when a packet becomes whole with its piece that the wire checks and the
 -- session allow; and a reply that passes consumes the one outstanding request that it answers.
 -- Assumes nothing.
-use Prim.Native.Nat.{ℕ}
+use Prim.Native.Nat.{ℕ, _≤_}
 use native.Mathlib.Omega.{arith}
 use mathlib.Core.Path.{_≡_, refl, sym, ap, _∙_}
-use mathlib.Core.Bool.{true, false, true≢false}
+use mathlib.Core.Bool.{Bool, true, false, cond, true≢false}
 use mathlib.Core.List.{List, _++_}
 use mathlib.Core.Logic.{_↔_, _⊎_}
-use lib.ListN.{take}
-use lib.Dec.{eqb}
-use borrow.Author.Tests.{eqb-true}
+use lib.ListN.{length, take}
+use lib.Dec.{eqb, ltb}
+use borrow.Author.Tests.{eqb-true, ltb-false, le-ltb}
 use borrow.Table.Steps.{cases}
 use Rattle.header.specs.declared.Side.{Side}
 use Rattle.kinds.specs.Content.{Content}
 use Rattle.kinds.specs.Number.{wireNumber}
-use Rattle.kinds.specs.Codec.{decode, readNumber}
+use Rattle.header.specs.Header.{headerNumber}
+use Rattle.kinds.specs.Codec.{decode, encode, readNumber, bodyLength, packetNumber, writeNumber}
+use Rattle.kinds.specs.RoundTrip.{both-zero}
 use Rattle.requests.specs.Requests.{idsDiffer}
 use Rattle.events.specs.Event.{eventOf}
 use Rattle.session.specs.declared.Session.{Session}
@@ -28,6 +30,7 @@ use Rattle.wire.specs.Wire.{usbredir}
 use Rattle.frame.specs.Frame.{cutAt}
 use Rattle.verdict.specs.Verdict.{Told, verdictOf}
 use Rattle.gate.specs.Offer.{heldAs, heldBytes, barred, packetTaken, byCut, offerOf}
+use Rattle.gate.specs.Write.{shut, writeBy}
 use Rattle.gate.specs.Laws.{Ready, ready, fit-is}
 use Rattle.demands.specs.Kept.{whole-number}
 use Rattle.demands.specs.Demand3.{offer-barred, offer-open, verdict-open}
@@ -118,3 +121,34 @@ module _ (from : Side) (s : Session) (hold piece : List ℕ) where
       let q = packetAt from s hold piece (h .size) in
       let v = is-verdict (h .ready) (h .size) (h .whole) ∙ ap (λ (t : Told). packetTaken from s hold piece t (h .size)) (verdict-open (heldAs from 0 s) from (take (h .size) all) (whole-number (linkOf from s) all (h .size) (h .whole) ∙ h .form)) in
       rw v (reply-consumes (heldAs from 0 s) from q (h .form) r (ids (h .ready) (h .size) (h .whole)) (sym (judged-zero (h .ready) (h .size) (h .whole) (h .form)) ∙ passing h))
+
+-- ---- the writer
+
+-- "Reader and writer follow the same definition": a packet is written exactly when the call is not shut by 43, 3 or 2, the same wire checks
+-- find nothing, and the output has room
+pub record Written (from : Side) (s : Session) (p : Content) (space : ℕ) : Type 0 where
+  pub going : shut from s (eqb (p .kind) 0) ≡ 0
+  pub header : headerNumber (linkOf from s) (p .kind) (bodyLength (linkOf from s) p) ≡ 0
+  pub form : wireNumber (linkOf from s) p ≡ 0
+  pub room : length (encode (linkOf from s) p) ≤ space
+
+pub writer-exactly : (from : Side) (s : Session) (p : Content) (room : ℕ) → (writeBy from s p room ≡ 0) ↔ Written from s p room
+unfolding writeBy writeNumber packetNumber
+writer-exactly from s p room = (written, writing)
+  where
+    full : Bool
+    full = ltb room (length (encode (linkOf from s) p))
+
+    roomy : (b : Bool) → full ≡ b → _≡_ {A = ℕ} (cond b 40 0) 0 → length (encode (linkOf from s) p) ≤ room
+    roomy true t e = absurd (omega (arith, e))
+    roomy false t e = ltb-false room (length (encode (linkOf from s) p)) t
+
+    written : writeBy from s p room ≡ 0 → Written from s p room
+    written e =
+        let a = both-zero (shut from s (eqb (p .kind) 0)) (writeNumber (linkOf from s) p room) e in
+        let b = both-zero (packetNumber (linkOf from s) p) (cond full 40 0) (a .1) in
+        let c = both-zero (headerNumber (linkOf from s) (p .kind) (bodyLength (linkOf from s) p)) (wireNumber (linkOf from s) p) (b .0) in
+        record { going = a .0; header = c .0; form = c .1; room = roomy full refl (b .1) }
+
+    writing : Written from s p room → writeBy from s p room ≡ 0
+    writing w = simp (w .going, w .header, w .form, le-ltb room (length (encode (linkOf from s) p)) (w .room))

@@ -14,14 +14,12 @@ use Rattle.header.specs.declared.Side.the-variants.{Guest, Host}
 use Rattle.header.specs.declared.Hello.the-variants.{Awaited, Passed}
 use Rattle.header.specs.declared.Link.{Link}
 use Rattle.number.specs.Bits.{hasBit}
-use Rattle.endpoint.specs.Endpoint.{rowOf}
-use Rattle.endpoint.specs.declared.RowOf.the-variants.{At, Malformed}
 use Rattle.header.specs.Link.{sharedSet, idWidth}
 use Rattle.kinds.specs.Table.{Bits, always, bit, bits, Field, Tail, nothing, words, string, payload, payload-onward, Kind, kinds, kindAt}
 use Rattle.kinds.specs.Content.{Value, one, Content, shared, size}
 use Rattle.header.specs.Header.{headerSize, headerBytes, headerNumber}
 use Rattle.kinds.specs.Number.{dataLength, bad, kindNumber, wireNumber}
-use Rattle.kinds.specs.Codec.{layout, contentAt, decode, readNumber, encode, packetNumber, writeNumber, written, writtenSize}
+use Rattle.kinds.specs.Codec.{layout, encode, packetNumber, writeNumber, written, writtenSize}
 
 -- ---- sizes
 
@@ -141,10 +139,10 @@ control requesttype status = packet 100 3 (one 0 ∷ one 6 ∷ one requesttype �
 abbrev bulk : ℕ → Value → List ℕ → Content
 bulk stream high s = packet 101 9 (one 2 ∷ one 0 ∷ one 2 ∷ one stream ∷ high ∷ []) s
 
-pub passing : (number Guest 0 (packet 7 7 [] []) ≡ 0)  -- M1
-    × (number Guest 0 (bulk 0 none (170 ∷ 187 ∷ [])) ≡ 0)  -- M3
-    × (number Host 0 (bulk 0 none []) ≡ 0)  -- M4
-    × (first (hello 0 (17 ∷ 0 ∷ 0 ∷ 0 ∷ [])) ≡ 0)  -- M10
+pub passing : (number Guest 0 (packet 7 7 [] []) ≡ 0)
+    × (number Guest 0 (bulk 0 none (170 ∷ 187 ∷ [])) ≡ 0)
+    × (number Host 0 (bulk 0 none []) ≡ 0)
+    × (first (hello 0 (17 ∷ 0 ∷ 0 ∷ 0 ∷ [])) ≡ 0)
     × (number Host 0 (packet 8 1 (one 6 ∷ one 1 ∷ []) []) ≡ 0)
     × (number Guest 0 (control 0 255) ≡ 0)
     × (number Host 2 (connect 255 (one 0)) ≡ 0)
@@ -168,12 +166,12 @@ pub refused : (number Guest 0 (packet 28 0 [] []) ≡ 20)
     × (number Guest 4 (packet 23 0 [] []) ≡ 23)
     × (number Host 2 (connect 4 (one 0)) ≡ 24)
     × (number Host 0 (packet 8 1 (one 7 ∷ one 1 ∷ []) []) ≡ 24)
-    × (number Guest 0 (packet 12 5 (one 18 ∷ one 1 ∷ one 1 ∷ []) []) ≡ 24)  -- M9
+    × (number Guest 0 (packet 12 5 (one 18 ∷ one 1 ∷ one 1 ∷ []) []) ≡ 24)
     × (number Guest 1 (packet 18 1 (one 0 ∷ one 0 ∷ []) []) ≡ 24)
     × (number Guest 0 (bulk 5 none (170 ∷ 187 ∷ [])) ≡ 24)
     × (number Guest 4 (packet 23 0 [] (0 ∷ 48 ∷ [])) ≡ 24)
     × (first (hello 1 []) ≡ 24)
-    × (first (hello 0 (1 ∷ 0 ∷ 0 ∷ 0 ∷ [])) ≡ 13)  -- M10
+    × (first (hello 0 (1 ∷ 0 ∷ 0 ∷ 0 ∷ [])) ≡ 13)
 unfolding sharedSet idWidth wireNumber kindNumber bad kinds
 refused = (refl, refl, refl, refl, refl, refl, refl, refl, refl, refl, refl, refl, refl, refl, refl, refl, refl, refl, refl, refl)
 
@@ -222,23 +220,3 @@ untouched l p out e = (rw e, rw e)
 pub count : (low high : ℕ) → dataLength (layout 101) (one 2 ∷ one 0 ∷ one low ∷ one 0 ∷ one high ∷ []) ≡ low + 65536 * high
 unfolding layout kinds
 count low high = refl
-
--- ---- marked examples, as far as one packet decides them: the bytes, and their number when they are read
-
-abbrev link : Side → ℕ → Link
-link from caps = record { sender = from; guest = Passed caps; host = Passed caps }
-
--- the bytes of a packet, and the number of these bytes
-abbrev there-and-back : Side → ℕ → Content → List ℕ → Type 0
-there-and-back from caps p b = (encode (link from caps) p ≡ b) × (readNumber (link from caps) b ≡ 0)
-
-pub marked : there-and-back Guest 0 (packet 7 7 [] []) (7 ∷ 0 ∷ 0 ∷ 0 ∷ 0 ∷ 0 ∷ 0 ∷ 0 ∷ 7 ∷ 0 ∷ 0 ∷ 0 ∷ [])  -- M1
-    × there-and-back Guest 32 (packet 7 7 [] []) (7 ∷ 0 ∷ 0 ∷ 0 ∷ 0 ∷ 0 ∷ 0 ∷ 0 ∷ 7 ∷ 0 ∷ 0 ∷ 0 ∷ 0 ∷ 0 ∷ 0 ∷ 0 ∷ [])  -- M2
-    × there-and-back Guest 0 (bulk 0 none (170 ∷ 187 ∷ [])) (101 ∷ 0 ∷ 0 ∷ 0 ∷ 10 ∷ 0 ∷ 0 ∷ 0 ∷ 9 ∷ 0 ∷ 0 ∷ 0 ∷ 2 ∷ 0 ∷ 2 ∷ 0 ∷ 0 ∷ 0 ∷ 0 ∷ 0 ∷ 170 ∷ 187 ∷ [])  -- M3
-    × there-and-back Host 0 (bulk 0 none []) (101 ∷ 0 ∷ 0 ∷ 0 ∷ 8 ∷ 0 ∷ 0 ∷ 0 ∷ 9 ∷ 0 ∷ 0 ∷ 0 ∷ 2 ∷ 0 ∷ 2 ∷ 0 ∷ 0 ∷ 0 ∷ 0 ∷ 0 ∷ [])  -- M4
-    × (headerNumber (link Guest 0) 101 32768 ≡ 0)  -- M6
-    × (headerNumber (link Guest 0) 101 32769 ≡ 10)  -- M7
-    × (rowOf (record { 0 = 130 }) ≡ At (record { 0 = 18 }))  -- M8
-    × (rowOf (record { 0 = 18 }) ≡ Malformed)  -- M9
-unfolding sharedSet idWidth headerSize headerBytes headerNumber layout encode decode contentAt readNumber wireNumber kindNumber bad kinds
-marked = ((refl, refl), (refl, refl), (refl, refl), (refl, refl), refl, refl, refl, refl)
