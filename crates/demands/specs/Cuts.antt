@@ -241,7 +241,7 @@ module _ (l : Link) (a r : List ℕ) (n : ℕ) where
 -- ---- one call
 
 -- a verdict's number ends a packet
-verdict-ends : (d : Side) (s : Session) (b : List ℕ) (n : ℕ) → cutAt (linkOf d s) b ≡ whole n → ends (verdictOf (heldAs d 0 s) d (take n b) .number) ≡ true
+pub verdict-ends : (d : Side) (s : Session) (b : List ℕ) (n : ℕ) → cutAt (linkOf d s) b ≡ whole n → ends (verdictOf (heldAs d 0 s) d (take n b) .number) ≡ true
 unfolding verdictOf
 verdict-ends d s b n e =
     cases (eqb (readNumber (linkOf d s) (take n b)) 0)
@@ -295,7 +295,7 @@ kept-quiet x d piece h = record { silent = refl; same = bare-held d (heldOf d (x
     behind-held Host h Host = kept-front (x .hold Host) piece (x .session .held .host) h ∙ ap (λ (p : List ℕ). heldBy x Host ++ p) (sym (take-length piece))
 
 -- what the verdict leaves held
-verdict-held : (s : Session) (from : Side) (b : List ℕ) → verdictOf s from b .session .held ≡ s .held
+pub verdict-held : (s : Session) (from : Side) (b : List ℕ) → verdictOf s from b .session .held ≡ s .held
 unfolding verdictOf
 verdict-held s from b =
     cases (eqb (readNumber (linkOf from s) b) 0)
@@ -382,7 +382,7 @@ few-same : (s t : Session) → t .held ≡ s .held → ((e : Side) → heldOf e 
 few-same s t q f Guest = subst (λ (h : Held). h .guest ≤ 32783) (sym q) (f Guest)
 few-same s t q f Host = subst (λ (h : Held). h .host ≤ 32783) (sym q) (f Host)
 
-barred-silent : (d : Side) (s : Session) (hold : List ℕ) → (barred d s hold ≡ 0 → ⊥) → ends (barred d s hold) ≡ false
+pub barred-silent : (d : Side) (s : Session) (hold : List ℕ) → (barred d s hold ≡ 0 → ⊥) → ends (barred d s hold) ≡ false
 unfolding barred
 barred-silent d s hold = go (ltb (length hold) 32784) (unfit s || heldWhole d s hold) (s .stopped) (isWaiting (linkOf d s))
   where

@@ -122,6 +122,14 @@ module _ (from : Side) (s : Session) (hold piece : List ℕ) where
       let v = is-verdict (h .ready) (h .size) (h .whole) ∙ ap (λ (t : Told). packetTaken from s hold piece t (h .size)) (verdict-open (heldAs from 0 s) from (take (h .size) all) (whole-number (linkOf from s) all (h .size) (h .whole) ∙ h .form)) in
       rw v (reply-consumes (heldAs from 0 s) from q (h .form) r (ids (h .ready) (h .size) (h .whole)) (sym (judged-zero (h .ready) (h .size) (h .whole) (h .form)) ∙ passing h))
 
+-- what a packet that passes does to the session is what the judge says of it (`moves`, `request-keeps` and the others of `claims`); "After any
+-- answer but 1, 2, 3, 41 or 43 the held count is 0"
+pub moves-in-gate : (from : Side) (s : Session) (hold piece : List ℕ) (h : Passes from s hold piece)
+    → offerOf from s hold piece .session ≡ judged (heldAs from 0 s) (eventOf from (packetAt from s hold piece (h .size))) .session
+moves-in-gate from s hold piece h =
+    ap (λ o. o .session) (is-verdict from s hold piece (h .ready) (h .size) (h .whole))
+    ∙ ap (λ (t : Told). t .session) (verdict-open (heldAs from 0 s) from (take (h .size) (heldBytes from s hold ++ piece)) (whole-number (linkOf from s) (heldBytes from s hold ++ piece) (h .size) (h .whole) ∙ h .form))
+
 -- ---- the writer
 
 -- "Reader and writer follow the same definition": a packet is written exactly when the call is not shut by 43, 3 or 2, the same wire checks

@@ -5,4 +5,5 @@ pub mod Demand2
 pub mod Demand3
 pub mod Data
 pub mod Cuts
+pub mod Calls
 pub mod Marked

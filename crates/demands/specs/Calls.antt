@@ -1,0 +1,383 @@
+-- Each call, in the words of document 01 and without the definitions' own tests: when a reader call is 41, 43, 3 or 2 (`bars`), when a writer call is
+-- 43, 3 or 2 (`shuts`), what a reader call leaves of the buffer and where the packet lies (`leaves`), and when it stops the session (`stops`).
+-- Assumes nothing.
+use Prim.Native.Nat.{ℕ, _+_, _-_, _≤_, _<_}
+use native.Mathlib.Omega.{arith}
+use mathlib.Core.Path.{_≡_, refl, sym, ap, subst, _∙_}
+use mathlib.Core.Bool.{Bool, true, false, cond, not, _&&_, _||_, true≢false, false≢true}
+use mathlib.Core.List.{List, [], _∷_, _++_, append-assoc}
+use mathlib.Core.Logic.{_↔_}
+use mathlib.Core.Option.{Option, none, some}
+use lib.ListN.{length, take, drop, length-append, take-append-drop}
+use lib.Seq.{sets, sets-eq, take-at, drop-at, length-take-le}
+use lib.Dec.{eqb, ltb}
+use borrow.Author.Tests.{eqb-true, lt-ltb, le-ltb}
+use borrow.Table.Steps.{cases}
+use Rattle.number.specs.Laws.{le-front}
+use Rattle.scan.specs.Logic.{or-none}
+use Rattle.header.specs.declared.Side.{Side}
+use Rattle.header.specs.declared.Side.the-variants.{Guest, Host}
+use Rattle.header.specs.declared.Link.{Link}
+use Rattle.header.specs.Link.{passed, own, helloOf, sharedSet}
+use Rattle.header.specs.Header.{kindOf, lengthOf}
+use Rattle.kinds.specs.Table.{kinds, kindAt}
+use Rattle.kinds.specs.Content.{Value, Content, find}
+use Rattle.kinds.specs.Number.{surplus, wideId, sizeOk, bad as bad-place, isNone, streamsAlone, inOrder, kindNumber, byKind, wireNumber}
+use Rattle.kinds.specs.Codec.{contentAt, decode, readNumber}
+use Rattle.decoder.specs.Reading.{Handed}
+use Rattle.events.specs.Event.{eventOf}
+use Rattle.session.specs.declared.Session.{Session}
+use Rattle.session.specs.Session.{linkOf, unfit}
+use Rattle.session.specs.Step.{judged}
+use Rattle.claims.specs.Allowed.{among}
+use Rattle.claims.specs.Kept.{kept-plain}
+use Rattle.roundtrip.specs.Cut.{Cut, more, bad, whole}
+use Rattle.roundtrip.specs.Told.{IsBad, bad-is, whole-is, whole-fits}
+use Rattle.wire.specs.Wire.{usbredir, laws}
+use Rattle.frame.specs.Frame.{headSize, cutAt, isMore, completed, placeFor, bytesAt}
+use Rattle.verdict.specs.Verdict.{stoppedNow, refusedAs, verdictOf}
+use Rattle.gate.specs.Offer.{heldOf, heldAs, heldBytes, isWaiting, heldWhole, barred, Outcome, byCut, offerOf, Whole}
+use Rattle.gate.specs.Write.{shut}
+use Rattle.gate.specs.Laws.{lies, completed-front, Fit, fit-is, is-fit, Ready, ready, held-few, whole-here, header-here}
+use Rattle.demands.specs.Numbers.{header-numbers, wire-numbers, session-numbers}
+use Rattle.demands.specs.Kept.{whole-number}
+use Rattle.demands.specs.Cuts.{ends, barred-silent, verdict-ends}
+
+-- ---- 2: "own hello passed, other's not"
+
+abbrev pub ownPassed : Side → Session → Bool
+ownPassed Guest s = passed (s .guest)
+ownPassed Host s = passed (s .host)
+
+abbrev pub otherPassed : Side → Session → Bool
+otherPassed Guest s = passed (s .host)
+otherPassed Host s = passed (s .guest)
+
+waiting-is : (from : Side) (s : Session) → isWaiting (linkOf from s) ≡ (ownPassed from s && not (otherPassed from s))
+waiting-is Guest s = go (passed (s .guest)) (passed (s .host))
+  where
+    go : (a b : Bool) → (a && not (a && b)) ≡ (a && not b)
+    go true b = refl
+    go false b = refl
+waiting-is Host s = go (passed (s .guest)) (passed (s .host))
+  where
+    go : (a b : Bool) → (b && not (a && b)) ≡ (b && not a)
+    go true true = refl
+    go true false = refl
+    go false true = refl
+    go false false = refl
+
+-- ---- 41, 43, 3, 2, in that order
+
+-- "held bytes of this direction already a whole packet or a header for 10 to 12" does not hold
+abbrev pub Unfinished : Side → Session → List ℕ → Type 0
+Unfinished from s hold = cutAt (linkOf from s) (heldBytes from s hold) ≡ more
+
+pub record Bars (from : Side) (s : Session) (hold : List ℕ) (n : ℕ) : Type 0 where
+  pub short : length hold < 32784 → n ≡ 41
+  pub unfit : 32784 ≤ length hold → (Fit s × Unfinished from s hold → ⊥) → n ≡ 43
+  pub stopped : 32784 ≤ length hold → Fit s → Unfinished from s hold → s .stopped ≡ true → n ≡ 3
+  pub waiting : 32784 ≤ length hold → Fit s → Unfinished from s hold → s .stopped ≡ false → ownPassed from s ≡ true → otherPassed from s ≡ false → n ≡ 2
+  pub going : 32784 ≤ length hold → Fit s → Unfinished from s hold → s .stopped ≡ false → (ownPassed from s ≡ true → otherPassed from s ≡ true) → n ≡ 0
+
+is-more : (c : Cut) → not (isMore c) ≡ false → c ≡ more
+is-more more e = refl
+is-more (bad n) e = absurd (true≢false e)
+is-more (whole n) e = absurd (true≢false e)
+
+pub bars : (from : Side) (s : Session) (hold : List ℕ) → Bars from s hold (barred from s hold)
+unfolding barred
+bars from s hold =
+    record {
+      short = λ h. rw (lt-ltb (length hold) 32784 h) refl;
+      unfit = λ h z. rw (le-ltb (length hold) 32784 h, bad-state z) refl;
+      stopped = λ h f m t. rw (le-ltb (length hold) 32784 h, is-fit s f, m, t) refl;
+      waiting = λ h f m t a b. rw (le-ltb (length hold) 32784 h, is-fit s f, m, t, waiting-is from s, a, b) refl;
+      going = λ h f m t a. rw (le-ltb (length hold) 32784 h, is-fit s f, m, t) (speaks (ownPassed from s) refl (otherPassed from s) refl a);
+    }
+  where
+    bad-state : (Fit s × Unfinished from s hold → ⊥) → (unfit s || heldWhole from s hold) ≡ true
+    bad-state z = go (unfit s) refl (heldWhole from s hold) refl
+      where
+        go : (a : Bool) → unfit s ≡ a → (b : Bool) → heldWhole from s hold ≡ b → (a || b) ≡ true
+        go true ea b eb = refl
+        go false ea true eb = refl
+        go false ea false eb = absurd (z (fit-is s ea, is-more (cutAt (linkOf from s) (heldBytes from s hold)) eb))
+
+    speaks : (a : Bool) → ownPassed from s ≡ a → (b : Bool) → otherPassed from s ≡ b → (ownPassed from s ≡ true → otherPassed from s ≡ true) → _≡_ {A = ℕ} (cond (isWaiting (linkOf from s)) 2 0) 0
+    speaks false ea b eb h = rw (waiting-is from s, ea) refl
+    speaks true ea true eb h = rw (waiting-is from s, ea, eb) refl
+    speaks true ea false eb h = absurd (true≢false (sym (h ea) ∙ eb))
+
+-- ---- the writer: 43, 3, and 2 for a non-hello
+
+pub record Shuts (from : Side) (s : Session) (hello : Bool) (n : ℕ) : Type 0 where
+  pub unfit : (Fit s → ⊥) → n ≡ 43
+  pub stopped : Fit s → s .stopped ≡ true → n ≡ 3
+  pub waiting : Fit s → s .stopped ≡ false → hello ≡ false → ownPassed from s ≡ true → otherPassed from s ≡ false → n ≡ 2
+  pub hello-goes : Fit s → s .stopped ≡ false → hello ≡ true → n ≡ 0
+  pub going : Fit s → s .stopped ≡ false → (ownPassed from s ≡ true → otherPassed from s ≡ true) → n ≡ 0
+
+pub shuts : (from : Side) (s : Session) (hello : Bool) → Shuts from s hello (shut from s hello)
+unfolding shut
+shuts from s hello =
+    record {
+      unfit = λ z. rw (not-fit z) refl;
+      stopped = λ f t. rw (is-fit s f, t) refl;
+      waiting = λ f t h a b. rw (is-fit s f, t, h, waiting-is from s, a, b) refl;
+      hello-goes = λ f t h. rw (is-fit s f, t, h, no (isWaiting (linkOf from s))) refl;
+      going = λ f t a. rw (is-fit s f, t) (speaks (ownPassed from s) refl (otherPassed from s) refl a hello);
+    }
+  where
+    not-fit : (Fit s → ⊥) → unfit s ≡ true
+    not-fit z = go (unfit s) refl
+      where
+        go : (a : Bool) → unfit s ≡ a → a ≡ true
+        go true e = refl
+        go false e = absurd (z (fit-is s e))
+
+    no : (b : Bool) → (b && false) ≡ false
+    no true = refl
+    no false = refl
+
+    speaks : (a : Bool) → ownPassed from s ≡ a → (b : Bool) → otherPassed from s ≡ b → (ownPassed from s ≡ true → otherPassed from s ≡ true) → (h : Bool) → _≡_ {A = ℕ} (cond (isWaiting (linkOf from s) && not h) 2 0) 0
+    speaks false ea b eb g h = rw (waiting-is from s, ea) refl
+    speaks true ea true eb g h = rw (waiting-is from s, ea, eb) refl
+    speaks true ea false eb g h = absurd (true≢false (sym (g ea) ∙ eb))
+
+-- ---- what a call leaves
+
+-- 2, 3, 41 and 43
+abbrev pub nothing : ℕ → Bool
+nothing n = among (2 ∷ 3 ∷ 41 ∷ 43 ∷ []) n
+
+pub record Leaves (from : Side) (s : Session) (hold piece : List ℕ) (o : Outcome) : Type 0 where
+  -- "takes nothing"; "nothing taken or changed"
+  pub unmoved : nothing (o .number) ≡ true → (o .session ≡ s) × (o .hold ≡ hold) × (o .taken ≡ 0)
+  -- 1: "piece used up", kept behind what is held
+  pub used-up : o .number ≡ 1 → (o .taken ≡ length piece) × (o .hold ≡ sets hold (heldOf from s) piece)
+  -- any other answer: "A packet that lies whole in the piece isn't copied."
+  pub uncopied : ends (o .number) ≡ true → heldOf from s ≡ 0 → o .hold ≡ hold
+  -- "a packet begun there, or a header that 10 to 12 refuse, is completed there and stays readable"
+  pub readable : ends (o .number) ≡ true → bytesAt (o .place) (o .size) piece (o .hold) ≡ take (o .size) (heldBytes from s hold ++ piece)
+  -- "the rest of that buffer is unchanged"
+  pub rest : ends (o .number) ≡ true → drop (o .size) (o .hold) ≡ drop (o .size) hold
+  -- and what is taken are the bytes of the piece up to its end
+  pub taken : ends (o .number) ≡ true → heldOf from s + o .taken ≡ o .size
+
+-- an answer that ends a packet is none of the others
+ends-moved : (n : ℕ) → ends n ≡ true → nothing n ≡ true → ⊥
+ends-moved n h m = cases (eqb n 1) (λ t. false≢true (rw t at h)) (λ t. false≢true (rw (t, m) at h))
+
+ends-other : (n : ℕ) → ends n ≡ true → n ≡ 1 → ⊥
+ends-other n h e = false≢true (rw e at h)
+
+header-ends : (l : Link) (b : List ℕ) (n : ℕ) → cutAt l b ≡ bad n → ends n ≡ true
+header-ends l b n e =
+    let i : IsBad usbredir l b n = bad-is usbredir l b n e in
+    subst (λ (m : ℕ). ends m ≡ true) (i .number) (header-numbers (λ m. ends m ≡ true) (refl, (refl, (refl, (refl, tt)))) l (kindOf b) (lengthOf b))
+
+-- what is completed in the buffer ends there
+completed-rest : (hold piece : List ℕ) (held n : ℕ) → Whole hold piece held n → drop n (completed hold held piece n) ≡ drop n hold
+completed-rest hold piece held n w = go (eqb held 0)
+  where
+    go : (b : Bool) → drop n (cond b hold (sets hold held (take (n - held) piece))) ≡ drop n hold
+    go true = refl
+    go false =
+        let l : length (take held hold) ≡ held = length-take-le held hold (omega (arith, w .room, w .begun)) in
+        let m : length (take (n - held) piece) ≡ n - held = length-take-le (n - held) piece (omega (arith, w .there)) in
+        let k : held + length (take (n - held) piece) ≡ n = omega (arith, w .begun) in
+        ap (drop n) (sets-eq (take (n - held) piece) hold held (omega (arith, w .room)))
+        ∙ drop-at (take held hold ++ take (n - held) piece) (drop (held + length (take (n - held) piece)) hold) n (omega (arith, length-append (take held hold) (take (n - held) piece)))
+        ∙ ap (λ (j : ℕ). drop j hold) k
+
+-- a packet, or a header that is refused, of so many bytes
+module _ (from : Side) (s : Session) (hold piece : List ℕ) (size : ℕ) (w : Whole hold piece (heldOf from s) size) where
+  ended : (t : Session) (n : ℕ) (h : Option Handed) → ends n ≡ true
+      → Leaves from s hold piece (record { session = t; number = n; taken = size - heldOf from s; place = placeFor (heldOf from s); size = size; handed = h; hold = completed hold (heldOf from s) piece size })
+  ended t n h e =
+      record {
+        unmoved = λ m. absurd (ends-moved n e m);
+        used-up = λ o. absurd (ends-other n e o);
+        uncopied = λ _ z. rw z refl;
+        readable = λ _. lies hold piece (heldOf from s) size w;
+        rest = λ _. completed-rest hold piece (heldOf from s) size w;
+        taken = λ _. omega (arith, w .begun);
+      }
+
+barred-other : (from : Side) (s : Session) (hold : List ℕ) → barred from s hold ≡ 1 → ⊥
+unfolding barred
+barred-other from s hold = go (ltb (length hold) 32784) (unfit s || heldWhole from s hold) (s .stopped) (isWaiting (linkOf from s))
+  where
+    go : (a b c d : Bool) → _≡_ {A = ℕ} (cond a 41 (cond b 43 (cond c 3 (cond d 2 0)))) 1 → ⊥
+    go true b c d e = omega (arith, e)
+    go false true c d e = omega (arith, e)
+    go false false true d e = omega (arith, e)
+    go false false false true e = omega (arith, e)
+    go false false false false e = omega (arith, e)
+
+pub leaves : (from : Side) (s : Session) (hold piece : List ℕ) → Leaves from s hold piece (offerOf from s hold piece)
+unfolding offerOf
+leaves from s hold piece =
+    cases (eqb (barred from s hold) 0)
+    (λ t. rw t (goes (ready from s hold (eqb-true _ _ t)) (cutAt (linkOf from s) (heldBytes from s hold ++ piece)) refl))
+    (λ t. rw t (shut (barred-silent from s hold (λ z. true≢false (sym (ap (λ (m : ℕ). eqb m 0) z) ∙ t)))))
+  where
+    shut : ends (barred from s hold) ≡ false → Leaves from s hold piece (Rattle.gate.specs.Offer.unmoved s hold (barred from s hold))
+    shut z =
+        record {
+          unmoved = λ m. (refl, refl, refl);
+          used-up = λ e. absurd (barred-other from s hold e);
+          uncopied = λ h _. refl;
+          readable = λ h. absurd (true≢false (sym h ∙ z));
+          rest = λ h. refl;
+          taken = λ h. absurd (true≢false (sym h ∙ z));
+        }
+
+    goes : Ready from s hold → (c : Cut) → cutAt (linkOf from s) (heldBytes from s hold ++ piece) ≡ c → Leaves from s hold piece (byCut from s hold piece c)
+    goes r more e =
+        record {
+          unmoved = λ m. absurd (false≢true m);
+          used-up = λ o. (refl, refl);
+          uncopied = λ h. absurd (false≢true h);
+          readable = λ h. absurd (false≢true h);
+          rest = λ h. absurd (false≢true h);
+          taken = λ h. absurd (false≢true h);
+        }
+    goes r (bad n) e =
+        ended from s hold piece (headSize (linkOf from s) (heldBytes from s hold ++ piece))
+        (header-here (linkOf from s) hold piece (heldOf from s) (r .room) (held-few from s (r .fit)) (r .begun) n e)
+        (stoppedNow (heldAs from 0 s)) n none (header-ends (linkOf from s) (heldBytes from s hold ++ piece) n e)
+    goes r (whole n) e =
+        ended from s hold piece n (whole-here (linkOf from s) hold piece (heldOf from s) (r .room) (held-few from s (r .fit)) (r .begun) n e)
+        (verdictOf (heldAs from 0 s) from (take n (heldBytes from s hold ++ piece)) .session) (verdictOf (heldAs from 0 s) from (take n (heldBytes from s hold ++ piece)) .number)
+        (verdictOf (heldAs from 0 s) from (take n (heldBytes from s hold ++ piece)) .handed) (verdict-ends from s (heldBytes from s hold ++ piece) n e)
+
+-- ---- when the session stops
+
+-- "10, 11, 12 .. stop the session. A hello refused with 23, 24 or 13 (that order) is taken whole and stops it too."
+abbrev pub stopping : ℕ → ℕ → Bool
+stopping kind n = among (10 ∷ 11 ∷ 12 ∷ []) n || (eqb kind 0 && among (13 ∷ 23 ∷ 24 ∷ []) n)
+
+-- no field of a hello depends on the shared set
+hello-fields : (caps : ℕ) (vs : List Value) → surplus caps (kindAt 0 .fields) vs ≡ false
+unfolding kinds
+hello-fields caps [] = refl
+hello-fields caps (none ∷ vs) = refl
+hello-fields caps (some xs ∷ vs) = refl
+
+-- 20 to 22 are not a hello's numbers
+hello-number : (P : ℕ → Type 0) → P 0 → P 13 → P 23 → P 24 → (l : Link) (p : Content) → p .kind ≡ 0 → P (wireNumber l p)
+unfolding wireNumber kindNumber kinds
+hello-number P z a b c l p k =
+    let n : eqb (p .kind) 0 ≡ true = ap (λ (m : ℕ). eqb m 0) k in
+    let w : wideId l p ≡ false = rw n refl in
+    let h : (surplus (sharedSet l) (kindAt 0 .fields) (p .fields) || wideId l p) ≡ false = or-none (surplus (sharedSet l) (kindAt 0 .fields) (p .fields)) (wideId l p) (hello-fields (sharedSet l) (p .fields)) w in
+    let size : Bool = not (sizeOk (l .sender) (kindAt 0) p) in
+    let rules : Bool = not (isNone (bad-place (l .sender) (sharedSet l) (kindAt 0) p)) in
+    let streams : Bool = streamsAlone (kindAt 0 .tail) (p .rest) in
+    subst P (sym (ap (λ (m : ℕ). byKind l (find m kinds) p) k ∙ ap (λ (x : Bool). inOrder false x size rules streams) h)) (order size rules streams)
+  where
+    order : (w m u : Bool) → P (inOrder false false w m u)
+    order true m u = b
+    order false true u = c
+    order false false true = a
+    order false false false = z
+
+-- a packet's kind stands in its own bytes
+kind-front : (b : List ℕ) (n : ℕ) → 12 ≤ n → n ≤ length b → kindOf (take n b) ≡ kindOf b
+kind-front b n h g =
+    let c : length (take n b) ≡ n = length-take-le n b g in
+    sym (le-front 4 (take n b) (drop n b) 0 (omega arith)) ∙ ap kindOf (take-append-drop n b)
+
+still : (b : Bool) → (b && false) ≡ false
+still true = refl
+still false = refl
+
+-- a session that goes on
+same : (t : Bool) (kind n : ℕ) → stopping kind n ≡ false → t ≡ (t || stopping kind n)
+same true kind n z = refl
+same false kind n z = sym z
+
+going-on : (t x y : Bool) → t ≡ false → x ≡ y → x ≡ (t || y)
+going-on true x y z e = absurd (true≢false z)
+going-on false x y z e = e
+
+barred-still : (from : Side) (s : Session) (hold : List ℕ) (kind : ℕ) → stopping kind (barred from s hold) ≡ false
+unfolding barred
+barred-still from s hold kind = go (ltb (length hold) 32784) (unfit s || heldWhole from s hold) (s .stopped) (isWaiting (linkOf from s))
+  where
+    go : (a b c d : Bool) → stopping kind (cond a 41 (cond b 43 (cond c 3 (cond d 2 0)))) ≡ false
+    go true b c d = still (eqb kind 0)
+    go false true c d = still (eqb kind 0)
+    go false false true d = still (eqb kind 0)
+    go false false false true = still (eqb kind 0)
+    go false false false false = still (eqb kind 0)
+
+-- a header that is refused
+header-stops : (l : Link) (b : List ℕ) (n kind : ℕ) → cutAt l b ≡ bad n → true ≡ stopping kind n
+header-stops l b n kind e =
+    let i : IsBad usbredir l b n = bad-is usbredir l b n e in
+    let h : among (10 ∷ 11 ∷ 12 ∷ []) n ≡ true =
+    subst (λ (m : ℕ). (m ≡ 0 → ⊥) → among (10 ∷ 11 ∷ 12 ∷ []) m ≡ true) (i .number)
+    (header-numbers (λ m. (m ≡ 0 → ⊥) → among (10 ∷ 11 ∷ 12 ∷ []) m ≡ true) ((λ z. absurd (z refl)), ((λ z. refl), ((λ z. refl), ((λ z. refl), tt)))) l (kindOf b) (lengthOf b)) (i .refused) in
+    sym (either (among (10 ∷ 11 ∷ 12 ∷ []) n) (eqb kind 0 && among (13 ∷ 23 ∷ 24 ∷ []) n) h)
+  where
+    either : (a b : Bool) → a ≡ true → (a || b) ≡ true
+    either true b e = refl
+    either false b e = absurd (false≢true e)
+
+-- a whole packet
+module _ (d : Side) (s : Session) (b : List ℕ) (n : ℕ) (e : cutAt (linkOf d s) b ≡ whole n) (r : s .stopped ≡ false) where
+  abbrev l : Link
+  l = linkOf d s
+
+  abbrev p : Content
+  p = decode l (take n b)
+
+  kind-is : kindOf (take n b) ≡ kindOf b
+  kind-is = kind-front b n (whole-fits usbredir laws l b n e .0) (whole-is usbredir l b n e .there)
+
+  decoded : p .kind ≡ kindOf (take n b)
+  unfolding decode contentAt
+  decoded = refl
+
+  hello-stops : kindOf (take n b) ≡ 0 → (wireNumber l p ≡ 0 → ⊥) → stopping 0 (wireNumber l p) ≡ true
+  hello-stops k = hello-number (λ m. (m ≡ 0 → ⊥) → stopping 0 m ≡ true) (λ z. absurd (z refl)) (λ z. refl) (λ z. refl) (λ z. refl) l p (decoded ∙ k)
+
+  other-goes-on : eqb (kindOf (take n b)) 0 ≡ false → stopping (kindOf (take n b)) (wireNumber l p) ≡ false
+  other-goes-on k =
+      let h : among (10 ∷ 11 ∷ 12 ∷ []) (wireNumber l p) ≡ false = wire-numbers (λ m. among (10 ∷ 11 ∷ 12 ∷ []) m ≡ false) (refl, (refl, (refl, (refl, (refl, (refl, (refl, tt))))))) l p in
+      or-none (among (10 ∷ 11 ∷ 12 ∷ []) (wireNumber l p)) (eqb (kindOf (take n b)) 0 && among (13 ∷ 23 ∷ 24 ∷ []) (wireNumber l p)) h (rw k refl)
+
+  refused-stops : (wireNumber l p ≡ 0 → ⊥) → refusedAs (heldAs d 0 s) (kindOf (take n b)) .stopped ≡ stopping (kindOf (take n b)) (wireNumber l p)
+  refused-stops z =
+      cases (eqb (kindOf (take n b)) 0)
+      (λ t. let k : kindOf (take n b) ≡ 0 = eqb-true _ _ t in rw k (sym (hello-stops k z)))
+      (λ t. let q = other-goes-on t in rw (q, t) r)
+
+  verdict-stops : verdictOf (heldAs d 0 s) d (take n b) .session .stopped ≡ stopping (kindOf b) (verdictOf (heldAs d 0 s) d (take n b) .number)
+  unfolding verdictOf
+  verdict-stops =
+      cases (eqb (readNumber l (take n b)) 0)
+      (λ t. rw t
+      (kept-plain (heldAs d 0 s) (eventOf d p) .stopped ∙ r
+      ∙ sym (session-numbers (λ m. stopping (kindOf b) m ≡ false) (y, (y, (y, (y, (y, (y, (y, (y, (y, (y, (y, tt))))))))))) (heldAs d 0 s) (eventOf d p))))
+      (λ t. rw (t, whole-number l b n e, ← kind-is) (refused-stops (λ z. true≢false (sym (ap (λ (m : ℕ). eqb m 0) (whole-number l b n e ∙ z)) ∙ t))))
+    where
+      y : (eqb (kindOf b) 0 && false) ≡ false
+      y = still (eqb (kindOf b) 0)
+
+pub stops : (from : Side) (s : Session) (hold piece : List ℕ)
+    → offerOf from s hold piece .session .stopped ≡ (s .stopped || stopping (kindOf (heldBytes from s hold ++ piece)) (offerOf from s hold piece .number))
+unfolding offerOf
+stops from s hold piece =
+    cases (eqb (barred from s hold) 0)
+    (λ t. rw t (goes (ready from s hold (eqb-true _ _ t)) (cutAt (linkOf from s) (heldBytes from s hold ++ piece)) refl))
+    (λ t. rw t (same (s .stopped) (kindOf (heldBytes from s hold ++ piece)) (barred from s hold) (barred-still from s hold (kindOf (heldBytes from s hold ++ piece)))))
+  where
+    goes : Ready from s hold → (c : Cut) → cutAt (linkOf from s) (heldBytes from s hold ++ piece) ≡ c
+        → byCut from s hold piece c .session .stopped ≡ (s .stopped || stopping (kindOf (heldBytes from s hold ++ piece)) (byCut from s hold piece c .number))
+    goes r more e = same (s .stopped) (kindOf (heldBytes from s hold ++ piece)) 1 (still (eqb (kindOf (heldBytes from s hold ++ piece)) 0))
+    goes r (bad n) e = going-on (s .stopped) _ _ (r .running) (header-stops (linkOf from s) (heldBytes from s hold ++ piece) n (kindOf (heldBytes from s hold ++ piece)) e)
+    goes r (whole n) e = going-on (s .stopped) _ _ (r .running) (verdict-stops from s (heldBytes from s hold ++ piece) n e (r .running))
