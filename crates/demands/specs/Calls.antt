@@ -5,11 +5,10 @@ use Prim.Native.Nat.{ℕ, _+_, _-_, _≤_, _<_}
 use native.Mathlib.Omega.{arith}
 use mathlib.Core.Path.{_≡_, refl, sym, ap, subst, _∙_}
 use mathlib.Core.Bool.{Bool, true, false, cond, not, _&&_, _||_, true≢false, false≢true}
-use mathlib.Core.List.{List, [], _∷_, _++_, append-assoc}
-use mathlib.Core.Logic.{_↔_}
+use mathlib.Core.List.{List, [], _∷_, _++_}
 use mathlib.Core.Option.{Option, none, some}
 use lib.ListN.{length, take, drop, length-append, take-append-drop}
-use lib.Seq.{sets, sets-eq, take-at, drop-at, length-take-le}
+use lib.Seq.{sets, sets-eq, drop-at, length-take-le}
 use lib.Dec.{eqb, ltb}
 use borrow.Author.Tests.{eqb-true, lt-ltb, le-ltb}
 use borrow.Table.Steps.{cases}
@@ -18,7 +17,7 @@ use Rattle.scan.specs.Logic.{or-none}
 use Rattle.header.specs.declared.Side.{Side}
 use Rattle.header.specs.declared.Side.the-variants.{Guest, Host}
 use Rattle.header.specs.declared.Link.{Link}
-use Rattle.header.specs.Link.{passed, own, helloOf, sharedSet}
+use Rattle.header.specs.Link.{passed, sharedSet}
 use Rattle.header.specs.Header.{kindOf, lengthOf}
 use Rattle.kinds.specs.Table.{kinds, kindAt}
 use Rattle.kinds.specs.Content.{Value, Content, find}
@@ -28,7 +27,6 @@ use Rattle.decoder.specs.Reading.{Handed}
 use Rattle.events.specs.Event.{eventOf}
 use Rattle.session.specs.declared.Session.{Session}
 use Rattle.session.specs.Session.{linkOf, unfit}
-use Rattle.session.specs.Step.{judged}
 use Rattle.claims.specs.Allowed.{among}
 use Rattle.claims.specs.Kept.{kept-plain}
 use Rattle.roundtrip.specs.Cut.{Cut, more, bad, whole}
@@ -38,7 +36,7 @@ use Rattle.frame.specs.Frame.{headSize, cutAt, isMore, completed, placeFor, byt
 use Rattle.verdict.specs.Verdict.{stoppedNow, refusedAs, verdictOf}
 use Rattle.gate.specs.Offer.{heldOf, heldAs, heldBytes, isWaiting, heldWhole, barred, Outcome, byCut, offerOf, Whole}
 use Rattle.gate.specs.Write.{shut}
-use Rattle.gate.specs.Laws.{lies, completed-front, Fit, fit-is, is-fit, Ready, ready, held-few, whole-here, header-here}
+use Rattle.gate.specs.Laws.{lies, Fit, fit-is, is-fit, Ready, ready, held-few, whole-here, header-here}
 use Rattle.demands.specs.Numbers.{header-numbers, wire-numbers, session-numbers}
 use Rattle.demands.specs.Kept.{whole-number}
 use Rattle.demands.specs.Cuts.{ends, barred-silent, verdict-ends}
@@ -53,7 +51,7 @@ abbrev pub otherPassed : Side → Session → Bool
 otherPassed Guest s = passed (s .host)
 otherPassed Host s = passed (s .guest)
 
-waiting-is : (from : Side) (s : Session) → isWaiting (linkOf from s) ≡ (ownPassed from s && not (otherPassed from s))
+pub waiting-is : (from : Side) (s : Session) → isWaiting (linkOf from s) ≡ (ownPassed from s && not (otherPassed from s))
 waiting-is Guest s = go (passed (s .guest)) (passed (s .host))
   where
     go : (a b : Bool) → (a && not (a && b)) ≡ (a && not b)
@@ -172,7 +170,7 @@ ends-moved n h m = cases (eqb n 1) (λ t. false≢true (rw t at h)) (λ t. false
 ends-other : (n : ℕ) → ends n ≡ true → n ≡ 1 → ⊥
 ends-other n h e = false≢true (rw e at h)
 
-header-ends : (l : Link) (b : List ℕ) (n : ℕ) → cutAt l b ≡ bad n → ends n ≡ true
+pub header-ends : (l : Link) (b : List ℕ) (n : ℕ) → cutAt l b ≡ bad n → ends n ≡ true
 header-ends l b n e =
     let i : IsBad usbredir l b n = bad-is usbredir l b n e in
     subst (λ (m : ℕ). ends m ≡ true) (i .number) (header-numbers (λ m. ends m ≡ true) (refl, (refl, (refl, (refl, tt)))) l (kindOf b) (lengthOf b))

@@ -121,11 +121,11 @@ module _ (from : Side) (s : Session) (hold piece : List ℕ) where
   unfolding offerOf
   offer-open r = rw (not-barred from s hold r) refl
 
-held-as : (from : Side) (s : Session) (n : ℕ) → heldOf from (heldAs from n s) ≡ n
+pub held-as : (from : Side) (s : Session) (n : ℕ) → heldOf from (heldAs from n s) ≡ n
 held-as Guest s n = refl
 held-as Host s n = refl
 
-same-held : (d : Side) (s t : Session) → t .held ≡ s .held → heldOf d t ≡ heldOf d s
+pub same-held : (d : Side) (s t : Session) → t .held ≡ s .held → heldOf d t ≡ heldOf d s
 same-held Guest s t e = λ i. e i .guest
 same-held Host s t e = λ i. e i .host
 

@@ -6,4 +6,5 @@ pub mod Demand3
 pub mod Data
 pub mod Cuts
 pub mod Calls
+pub mod Begun
 pub mod Marked
