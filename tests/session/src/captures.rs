@@ -10,13 +10,13 @@ use crate::oracle::wire::{self, Side};
 use crate::report::{ensure, Report};
 use crate::script::Script;
 
-/// A capture beside the manifest: its name, and how often each number comes.
+/// A capture of `tests/gate/captures`: its name, and how often each number comes.
 struct Known {
     name: &'static str,
     totals: &'static [(u8, usize)],
 }
 
-/// captures/README.md tells where they come from and why packets are refused.
+/// README.md there tells where they come from, docs/PEERS.md why packets are refused.
 #[rustfmt::skip]
 const KNOWN: [Known; 10] = [
     known("lin14_uasss_xhci_ff", &[(0, 327)]),
@@ -36,18 +36,11 @@ const fn known(name: &'static str, totals: &'static [(u8, usize)]) -> Known {
 }
 
 pub fn run(report: &mut Report) {
-    let directory = Path::new(env!("CARGO_MANIFEST_DIR")).join("captures");
+    let directory = Path::new(env!("CARGO_MANIFEST_DIR")).join("../gate/captures");
     for known in &KNOWN {
         let path = directory.join(known.name).with_extension("txt");
         report.case(known.name, check(&path, Some(known.totals)));
     }
-    let found = captures_in(&directory).map(|paths| paths.len());
-    report.case(
-        "the captures have totals",
-        ensure(found == Ok(KNOWN.len()), || {
-            format!("{found:?} captures, {} totals", KNOWN.len())
-        }),
-    );
 }
 
 /// The captures of another directory: the library against the oracle, and a line of totals for each.
