@@ -40,10 +40,9 @@ use Rattle.frame.specs.Frame.{cutAt, completed}
 use Rattle.verdict.specs.Verdict.{stoppedNow, refusedAs, verdictOf}
 use Rattle.gate.specs.Offer.{heldOf, heldAs, heldBytes, isWaiting, barred, byCut, offerOf}
 use Rattle.gate.specs.Laws.{FitCount, Fit, fit-is, is-fit, completed-length, more-few, Ready, ready}
-use Rattle.demands.specs.Kept.{opposite, kept-front, whole-number}
+use Rattle.demands.specs.Kept.{opposite, kept-front, held-as, same-held, whole-number}
 use Rattle.demands.specs.Cuts.{of-side, Both, Call, answerTo, next, final, heldBy, ends, verdict-ends}
 use Rattle.demands.specs.Calls.{Unfinished, header-ends}
-use Rattle.demands.specs.Demand3.{held-as, same-held}
 
 abbrev pub helloBy : Side → Session → Hello
 helloBy Guest s = s .guest

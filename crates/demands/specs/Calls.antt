@@ -9,7 +9,7 @@ use mathlib.Core.List.{List, [], _∷_, _++_}
 use mathlib.Core.Option.{Option, none, some}
 use lib.ListN.{length, take, drop, length-append, take-append-drop}
 use lib.Seq.{sets, sets-eq, drop-at, length-take-le}
-use lib.Dec.{eqb, ltb}
+use lib.Dec.{eqb}
 use borrow.Author.Tests.{eqb-true, lt-ltb, le-ltb}
 use borrow.Table.Steps.{cases}
 use Rattle.number.specs.Laws.{le-front}
@@ -32,12 +32,12 @@ use Rattle.claims.specs.Kept.{kept-plain}
 use Rattle.roundtrip.specs.Cut.{Cut, more, bad, whole}
 use Rattle.roundtrip.specs.Told.{IsBad, bad-is, whole-is, whole-fits}
 use Rattle.wire.specs.Wire.{usbredir, laws}
-use Rattle.frame.specs.Frame.{headSize, cutAt, isMore, completed, placeFor, bytesAt}
+use Rattle.frame.specs.Frame.{headSize, cutAt, completed, placeFor, bytesAt}
 use Rattle.verdict.specs.Verdict.{stoppedNow, refusedAs, verdictOf}
 use Rattle.gate.specs.Offer.{heldOf, heldAs, heldBytes, isWaiting, heldWhole, barred, Outcome, byCut, offerOf, Whole}
 use Rattle.gate.specs.Write.{shut}
-use Rattle.gate.specs.Laws.{lies, Fit, fit-is, is-fit, Ready, ready, held-few, whole-here, header-here}
-use Rattle.demands.specs.Numbers.{header-numbers, wire-numbers, session-numbers}
+use Rattle.gate.specs.Laws.{is-more, lies, Fit, fit-is, is-fit, Ready, ready, held-few, whole-here, header-here}
+use Rattle.demands.specs.Numbers.{header-numbers, wire-numbers, session-numbers, barred-numbers}
 use Rattle.demands.specs.Kept.{whole-number}
 use Rattle.demands.specs.Cuts.{ends, barred-silent, verdict-ends}
 
@@ -51,7 +51,7 @@ abbrev pub otherPassed : Side → Session → Bool
 otherPassed Guest s = passed (s .host)
 otherPassed Host s = passed (s .guest)
 
-pub waiting-is : (from : Side) (s : Session) → isWaiting (linkOf from s) ≡ (ownPassed from s && not (otherPassed from s))
+waiting-is : (from : Side) (s : Session) → isWaiting (linkOf from s) ≡ (ownPassed from s && not (otherPassed from s))
 waiting-is Guest s = go (passed (s .guest)) (passed (s .host))
   where
     go : (a b : Bool) → (a && not (a && b)) ≡ (a && not b)
@@ -77,11 +77,6 @@ pub record Bars (from : Side) (s : Session) (hold : List ℕ) (n : ℕ) : Type 0
   pub stopped : 32784 ≤ length hold → Fit s → Unfinished from s hold → s .stopped ≡ true → n ≡ 3
   pub waiting : 32784 ≤ length hold → Fit s → Unfinished from s hold → s .stopped ≡ false → ownPassed from s ≡ true → otherPassed from s ≡ false → n ≡ 2
   pub going : 32784 ≤ length hold → Fit s → Unfinished from s hold → s .stopped ≡ false → (ownPassed from s ≡ true → otherPassed from s ≡ true) → n ≡ 0
-
-is-more : (c : Cut) → not (isMore c) ≡ false → c ≡ more
-is-more more e = refl
-is-more (bad n) e = absurd (true≢false e)
-is-more (whole n) e = absurd (true≢false e)
 
 pub bars : (from : Side) (s : Session) (hold : List ℕ) → Bars from s hold (barred from s hold)
 unfolding barred
@@ -204,15 +199,7 @@ module _ (from : Side) (s : Session) (hold piece : List ℕ) (size : ℕ) (w : W
       }
 
 barred-other : (from : Side) (s : Session) (hold : List ℕ) → barred from s hold ≡ 1 → ⊥
-unfolding barred
-barred-other from s hold = go (ltb (length hold) 32784) (unfit s || heldWhole from s hold) (s .stopped) (isWaiting (linkOf from s))
-  where
-    go : (a b c d : Bool) → _≡_ {A = ℕ} (cond a 41 (cond b 43 (cond c 3 (cond d 2 0)))) 1 → ⊥
-    go true b c d e = omega (arith, e)
-    go false true c d e = omega (arith, e)
-    go false false true d e = omega (arith, e)
-    go false false false true e = omega (arith, e)
-    go false false false false e = omega (arith, e)
+barred-other = barred-numbers (λ m. m ≡ 1 → ⊥) ((λ e. omega (arith, e)), ((λ e. omega (arith, e)), ((λ e. omega (arith, e)), ((λ e. omega (arith, e)), ((λ e. omega (arith, e)), tt)))))
 
 pub leaves : (from : Side) (s : Session) (hold piece : List ℕ) → Leaves from s hold piece (offerOf from s hold piece)
 unfolding offerOf
@@ -301,16 +288,8 @@ going-on : (t x y : Bool) → t ≡ false → x ≡ y → x ≡ (t || y)
 going-on true x y z e = absurd (true≢false z)
 going-on false x y z e = e
 
-barred-still : (from : Side) (s : Session) (hold : List ℕ) (kind : ℕ) → stopping kind (barred from s hold) ≡ false
-unfolding barred
-barred-still from s hold kind = go (ltb (length hold) 32784) (unfit s || heldWhole from s hold) (s .stopped) (isWaiting (linkOf from s))
-  where
-    go : (a b c d : Bool) → stopping kind (cond a 41 (cond b 43 (cond c 3 (cond d 2 0)))) ≡ false
-    go true b c d = still (eqb kind 0)
-    go false true c d = still (eqb kind 0)
-    go false false true d = still (eqb kind 0)
-    go false false false true = still (eqb kind 0)
-    go false false false false = still (eqb kind 0)
+barred-still : (kind : ℕ) (from : Side) (s : Session) (hold : List ℕ) → stopping kind (barred from s hold) ≡ false
+barred-still kind = let y = still (eqb kind 0) in barred-numbers (λ m. stopping kind m ≡ false) (y, (y, (y, (y, (y, tt)))))
 
 -- a header that is refused
 header-stops : (l : Link) (b : List ℕ) (n kind : ℕ) → cutAt l b ≡ bad n → true ≡ stopping kind n
@@ -372,7 +351,7 @@ unfolding offerOf
 stops from s hold piece =
     cases (eqb (barred from s hold) 0)
     (λ t. rw t (goes (ready from s hold (eqb-true _ _ t)) (cutAt (linkOf from s) (heldBytes from s hold ++ piece)) refl))
-    (λ t. rw t (same (s .stopped) (kindOf (heldBytes from s hold ++ piece)) (barred from s hold) (barred-still from s hold (kindOf (heldBytes from s hold ++ piece)))))
+    (λ t. rw t (same (s .stopped) (kindOf (heldBytes from s hold ++ piece)) (barred from s hold) (barred-still (kindOf (heldBytes from s hold ++ piece)) from s hold)))
   where
     goes : Ready from s hold → (c : Cut) → cutAt (linkOf from s) (heldBytes from s hold ++ piece) ≡ c
         → byCut from s hold piece c .session .stopped ≡ (s .stopped || stopping (kindOf (heldBytes from s hold ++ piece)) (byCut from s hold piece c .number))

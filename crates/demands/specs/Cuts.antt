@@ -5,13 +5,13 @@
 use Prim.Native.Nat.{ℕ, _+_, _-_, _≤_}
 use native.Mathlib.Omega.{arith}
 use mathlib.Core.Path.{_≡_, refl, sym, ap, subst, _∙_}
-use mathlib.Core.Bool.{Bool, true, false, cond, not, _||_, true≢false}
+use mathlib.Core.Bool.{Bool, true, false, cond, not, true≢false}
 use mathlib.Core.List.{List, [], _∷_, _++_, append-assoc, append-nil}
 use mathlib.Core.Option.{Option, none}
 use mathlib.Core.Logic.{_⊎_, inl, inr}
 use lib.ListN.{length, take, drop, length-append}
 use lib.Seq.{length-take-le, take-at, take-length, drop-append-seam}
-use lib.Dec.{eqb, ltb}
+use lib.Dec.{eqb}
 use borrow.Author.Tests.{eqb-true, ne-eqb, le-ltb}
 use borrow.Table.Steps.{cases}
 use Rattle.header.specs.declared.Side.{Side}
@@ -29,7 +29,7 @@ use Rattle.checks.specs.Checks.{matchOf, numberFor}
 use Rattle.session.specs.declared.Held.{Held}
 use Rattle.session.specs.declared.Session.{Session}
 use Rattle.session.specs.declared.Judged.{Judged}
-use Rattle.session.specs.Session.{linkOf, unfit}
+use Rattle.session.specs.Session.{linkOf}
 use Rattle.session.specs.Step.{deviceAfter, requestsAfter, nextFor, judged}
 use Rattle.claims.specs.Allowed.{among}
 use Rattle.claims.specs.Kept.{kept-plain}
@@ -38,11 +38,11 @@ use Rattle.roundtrip.specs.Told.{IsWhole, whole-is, IsBad, bad-is}
 use Rattle.wire.specs.Wire.{usbredir}
 use Rattle.frame.specs.Frame.{headSize, headNumber, cutAt, completed}
 use Rattle.verdict.specs.Verdict.{Told, stoppedNow, refusedAs, verdictOf}
-use Rattle.gate.specs.Offer.{heldOf, heldAs, heldBytes, isWaiting, heldWhole, barred, Outcome, unmoved, kept, headerRefused, packetTaken, byCut, offerOf, Whole}
+use Rattle.gate.specs.Offer.{heldOf, heldAs, heldBytes, barred, Outcome, unmoved, kept, headerRefused, packetTaken, byCut, offerOf, Whole}
 use Rattle.gate.specs.Laws.{front-is, more-few, whole-here, header-here, Ready, ready}
-use Rattle.demands.specs.Numbers.{header-numbers, wire-numbers, session-numbers}
+use Rattle.demands.specs.Numbers.{header-numbers, barred-numbers}
 use Rattle.demands.specs.Demand1.{demand-1}
-use Rattle.demands.specs.Kept.{whole-number, kept-front, header-behind, header-front}
+use Rattle.demands.specs.Kept.{verdict-numbers, kept-front, header-behind, header-front}
 
 -- ---- runs of reader calls
 
@@ -242,11 +242,7 @@ module _ (l : Link) (a r : List ℕ) (n : ℕ) where
 
 -- a verdict's number ends a packet
 pub verdict-ends : (d : Side) (s : Session) (b : List ℕ) (n : ℕ) → cutAt (linkOf d s) b ≡ whole n → ends (verdictOf (heldAs d 0 s) d (take n b) .number) ≡ true
-unfolding verdictOf
-verdict-ends d s b n e =
-    cases (eqb (readNumber (linkOf d s) (take n b)) 0)
-    (λ t. rw t (session-numbers (λ m. ends m ≡ true) (refl, (refl, (refl, (refl, (refl, (refl, (refl, (refl, (refl, (refl, (refl, tt))))))))))) (heldAs d 0 s) (eventOf d (decode (linkOf d s) (take n b)))))
-    (λ t. rw t (rw (whole-number (linkOf d s) b n e) (wire-numbers (λ m. ends m ≡ true) (refl, (refl, (refl, (refl, (refl, (refl, (refl, tt))))))) (linkOf d s) (decode (linkOf d s) (take n b)))))
+verdict-ends d s b n e = verdict-numbers (λ m. ends m ≡ true) (refl, (refl, (refl, (refl, (refl, (refl, (refl, tt))))))) (refl, (refl, (refl, (refl, (refl, (refl, (refl, (refl, (refl, (refl, (refl, tt))))))))))) d (heldAs d 0 s) b n e
 
 -- buffers that 41 allows, and counts that 43 allows
 pub record Fits (x : Both) : Type 0 where
@@ -383,15 +379,7 @@ few-same s t q f Guest = subst (λ (h : Held). h .guest ≤ 32783) (sym q) (f Gu
 few-same s t q f Host = subst (λ (h : Held). h .host ≤ 32783) (sym q) (f Host)
 
 pub barred-silent : (d : Side) (s : Session) (hold : List ℕ) → (barred d s hold ≡ 0 → ⊥) → ends (barred d s hold) ≡ false
-unfolding barred
-barred-silent d s hold = go (ltb (length hold) 32784) (unfit s || heldWhole d s hold) (s .stopped) (isWaiting (linkOf d s))
-  where
-    go : (a b c e : Bool) → (_≡_ {A = ℕ} (cond a 41 (cond b 43 (cond c 3 (cond e 2 0)))) 0 → ⊥) → ends (cond a 41 (cond b 43 (cond c 3 (cond e 2 0)))) ≡ false
-    go true b c e z = refl
-    go false true c e z = refl
-    go false false true e z = refl
-    go false false false true z = refl
-    go false false false false z = absurd (z refl)
+barred-silent = barred-numbers (λ m. (m ≡ 0 → ⊥) → ends m ≡ false) ((λ z. absurd (z refl)), ((λ z. refl), ((λ z. refl), ((λ z. refl), ((λ z. refl), tt)))))
 
 shows : (x : Both) (d : Side) (piece : List ℕ) → Fits x → Shows x d piece (offerOf d (x .session) (x .hold d) piece)
 unfolding offerOf

@@ -4,7 +4,7 @@
 use Prim.Native.Nat.{ℕ, _+_, _≤_}
 use native.Mathlib.Omega.{arith}
 use mathlib.Core.Path.{_≡_, refl, sym, subst}
-use mathlib.Core.Bool.{Bool, true, false, cond, not, _&&_, _||_}
+use mathlib.Core.Bool.{Bool, true, false, cond, not, _&&_}
 use mathlib.Core.List.{List, [], _∷_, _++_}
 use lib.ListN.{length, take}
 use lib.Seq.{length-sets}
@@ -27,11 +27,11 @@ use Rattle.roundtrip.specs.Told.{IsBad, bad-is}
 use Rattle.wire.specs.Wire.{usbredir}
 use Rattle.frame.specs.Frame.{headSize, cutAt}
 use Rattle.verdict.specs.Verdict.{stoppedNow, refusedAs, verdictOf}
-use Rattle.gate.specs.Offer.{heldOf, heldAs, heldBytes, heldWhole, isWaiting, barred, Outcome, byCut, offerOf, Whole}
+use Rattle.gate.specs.Offer.{heldOf, heldAs, heldBytes, isWaiting, barred, Outcome, byCut, offerOf, Whole}
 use Rattle.gate.specs.Write.{shut, writeBy, output, outputSize}
 use Rattle.gate.specs.Laws.{completed-length, whole-here, header-here, Ready, ready, held-few}
-use Rattle.demands.specs.Numbers.{header-numbers, wire-numbers, session-numbers}
-use Rattle.demands.specs.Kept.{whole-number}
+use Rattle.demands.specs.Numbers.{header-numbers, wire-numbers, barred-numbers}
+use Rattle.demands.specs.Kept.{verdict-numbers}
 
 -- the numbers of document 01 that a reader call can give, and those that a writer call can
 abbrev pub readNumbers : List ℕ
@@ -71,15 +71,7 @@ pub record Demand1 : Type 0 where
 -- ---- the reader
 
 barred-number : (from : Side) (s : Session) (hold : List ℕ) → among readNumbers (barred from s hold) ≡ true
-unfolding barred
-barred-number from s hold = go (ltb (length hold) 32784) (unfit s || heldWhole from s hold) (s .stopped) (isWaiting (linkOf from s))
-  where
-    go : (a b c d : Bool) → among readNumbers (cond a 41 (cond b 43 (cond c 3 (cond d 2 0)))) ≡ true
-    go true b c d = refl
-    go false true c d = refl
-    go false false true d = refl
-    go false false false true = refl
-    go false false false false = refl
+barred-number = barred-numbers (λ m. among readNumbers m ≡ true) (refl, (refl, (refl, (refl, (refl, tt)))))
 
 same : (s : Session) → Unchanged s s
 same s = record { guest = refl; host = refl; device = refl; requests = refl }
@@ -97,11 +89,7 @@ refused-same d s kind = go (eqb kind 0)
 -- of a whole packet's verdict
 module _ (d : Side) (s : Session) (b : List ℕ) (n : ℕ) (e : cutAt (linkOf d s) b ≡ whole n) where
   verdict-number : among readNumbers (verdictOf (heldAs d 0 s) d (take n b) .number) ≡ true
-  unfolding verdictOf
-  verdict-number =
-      cases (eqb (readNumber (linkOf d s) (take n b)) 0)
-      (λ t. rw t (session-numbers (λ m. among readNumbers m ≡ true) (refl, (refl, (refl, (refl, (refl, (refl, (refl, (refl, (refl, (refl, (refl, tt))))))))))) (heldAs d 0 s) (eventOf d (decode (linkOf d s) (take n b)))))
-      (λ t. rw t (rw (whole-number (linkOf d s) b n e) (wire-numbers (λ m. among readNumbers m ≡ true) (refl, (refl, (refl, (refl, (refl, (refl, (refl, tt))))))) (linkOf d s) (decode (linkOf d s) (take n b)))))
+  verdict-number = verdict-numbers (λ m. among readNumbers m ≡ true) (refl, (refl, (refl, (refl, (refl, (refl, (refl, tt))))))) (refl, (refl, (refl, (refl, (refl, (refl, (refl, (refl, (refl, (refl, (refl, tt))))))))))) d (heldAs d 0 s) b n e
 
   verdict-refusal : (verdictOf (heldAs d 0 s) d (take n b) .number ≡ 0 → ⊥) → Unchanged s (verdictOf (heldAs d 0 s) d (take n b) .session)
   unfolding verdictOf

@@ -35,7 +35,7 @@ use Rattle.encoder.specs.declared.Written.{Written}
 use Rattle.gate.specs.Write.{shut, writeBy, output, outputSize, WritesBy}
 use Rattle.gate.specs.Laws.{completed-length, more-few, Ready, not-barred, fit-is, is-fit, held-few}
 use Rattle.demands.specs.Numbers.{session-numbers}
-use Rattle.demands.specs.Kept.{opposite, kept-front, Sound, Keeps, offer-keeps}
+use Rattle.demands.specs.Kept.{opposite, kept-front, held-as, same-held, Sound, Keeps, offer-keeps}
 
 -- ---- the reader of a direction
 
@@ -120,14 +120,6 @@ module _ (from : Side) (s : Session) (hold piece : List ℕ) where
   pub offer-open : Ready from s hold → offerOf from s hold piece ≡ byCut from s hold piece (cutAt (linkOf from s) (heldBytes from s hold ++ piece))
   unfolding offerOf
   offer-open r = rw (not-barred from s hold r) refl
-
-pub held-as : (from : Side) (s : Session) (n : ℕ) → heldOf from (heldAs from n s) ≡ n
-held-as Guest s n = refl
-held-as Host s n = refl
-
-pub same-held : (d : Side) (s t : Session) → t .held ≡ s .held → heldOf d t ≡ heldOf d s
-same-held Guest s t e = λ i. e i .guest
-same-held Host s t e = λ i. e i .host
 
 opposite-twice : (d : Side) → opposite (opposite d) ≡ d
 opposite-twice Guest = refl

@@ -5,7 +5,7 @@ use Prim.Native.Nat.{ℕ, _+_, _-_, _≤_}
 use native.Mathlib.Omega.{arith}
 use mathlib.Core.Path.{_≡_, refl, sym, ap, subst, _∙_}
 use mathlib.Core.Bool.{Bool, true, false, cond, true≢false}
-use mathlib.Core.List.{List, _++_}
+use mathlib.Core.List.{List, [], _∷_, _++_}
 use lib.ListN.{length, take, drop, take-append-drop}
 use lib.Seq.{sets, length-take-le, take-length}
 use lib.Dec.{eqb}
@@ -33,6 +33,7 @@ use Rattle.frame.specs.Frame.{headSize, headNumber, cutAt}
 use Rattle.verdict.specs.Verdict.{stoppedNow, refusedAs, verdictOf}
 use Rattle.gate.specs.Offer.{heldOf, heldAs, heldBytes, barred, byCut, offerOf, Whole}
 use Rattle.gate.specs.Laws.{completed-front, FitCount, Fit, Ready, ready, more-few, held-few}
+use Rattle.demands.specs.Numbers.{Each, wire-numbers, session-numbers}
 
 abbrev pub opposite : Side → Side
 opposite Guest = Host
@@ -73,6 +74,15 @@ whole-number l b n e =
     let z : length t ≡ headSize l t + lengthOf t = omega (arith, w .size, f .size, f .says) in
     simp (le-ltb (length t) (headSize l t) h, f .number ∙ w .header, eq-eqb (length t) (headSize l t + lengthOf t) z)
 
+-- the numbers of a whole packet are those of the wire checks and of the session checks
+pub verdict-numbers : (P : ℕ → Type 0) → Each P (0 ∷ 13 ∷ 20 ∷ 21 ∷ 22 ∷ 23 ∷ 24 ∷ []) → Each P (0 ∷ 25 ∷ 26 ∷ 27 ∷ 28 ∷ 29 ∷ 30 ∷ 31 ∷ 32 ∷ 33 ∷ 34 ∷ [])
+    → (d : Side) (s : Session) (b : List ℕ) (n : ℕ) → cutAt (linkOf d s) b ≡ whole n → P (verdictOf s d (take n b) .number)
+unfolding verdictOf
+verdict-numbers P w j d s b n e =
+    cases (eqb (readNumber (linkOf d s) (take n b)) 0)
+    (λ t. rw t (session-numbers P j s (eventOf d (decode (linkOf d s) (take n b)))))
+    (λ t. rw t (subst P (sym (whole-number (linkOf d s) b n e)) (wire-numbers P w (linkOf d s) (decode (linkOf d s) (take n b)))))
+
 -- ---- a piece that is kept stands behind what is held
 
 pub kept-front : (hold piece : List ℕ) (held : ℕ) → held + length piece ≤ length hold → take (held + length piece) (sets hold held piece) ≡ take held hold ++ piece
@@ -81,6 +91,12 @@ kept-front hold piece held h =
     let m : held + length piece - held ≡ length piece = omega arith in
     subst (λ (p : List ℕ). take (held + length piece) (sets hold held p) ≡ take held hold ++ p) (ap (λ (k : ℕ). take k piece) m ∙ take-length piece)
     (completed-front hold piece held (held + length piece) w)
+
+-- ---- the held counts
+
+pub held-as : (from : Side) (s : Session) (n : ℕ) → heldOf from (heldAs from n s) ≡ n
+held-as Guest s n = refl
+held-as Host s n = refl
 
 -- ---- what is kept
 
@@ -142,7 +158,7 @@ halted : (d : Side) (s : Session) → Sound s → Keeps d s (stoppedNow s)
 halted Guest s h = record { sound = record { guest = h .guest; host = h .host; fit = record { guest = h .fit .guest; host = h .fit .host; ids = h .fit .ids; control = h .fit .control }; sized = record { places = h .sized .places; rows = h .sized .rows } }; guest = refl; host = refl; held = refl }
 halted Host s h = record { sound = record { guest = h .guest; host = h .host; fit = record { guest = h .fit .guest; host = h .fit .host; ids = h .fit .ids; control = h .fit .control }; sized = record { places = h .sized .places; rows = h .sized .rows } }; guest = refl; host = refl; held = refl }
 
-same-held : (d : Side) (s t : Session) → t .held ≡ s .held → heldOf d t ≡ heldOf d s
+pub same-held : (d : Side) (s t : Session) → t .held ≡ s .held → heldOf d t ≡ heldOf d s
 same-held Guest s t e = λ i. e i .guest
 same-held Host s t e = λ i. e i .host
 

@@ -1,11 +1,13 @@
--- Which numbers there are: those of a header, of the wire checks, of the session checks, and so of a whole packet.
+-- Which numbers there are: those of a header, of the wire checks, of the session checks, and of a call that is barred.
 -- Assumes nothing.
 use Prim.Native.Nat.{ℕ}
 use mathlib.Core.Path.{sym, subst}
 use mathlib.Core.Bool.{Bool, true, false, cond, not, _||_}
 use mathlib.Core.List.{List, [], _∷_}
 use mathlib.Core.Option.{Option, none, some}
+use lib.ListN.{length}
 use lib.Dec.{eqb, ltb}
+use Rattle.header.specs.declared.Side.{Side}
 use Rattle.header.specs.declared.Link.{Link}
 use Rattle.header.specs.Link.{passed, own, sharedSet}
 use Rattle.header.specs.Header.{headerNumber}
@@ -15,7 +17,9 @@ use Rattle.kinds.specs.Number.{sends, surplus, wideId, sizeOk, bad, isNone, str
 use Rattle.events.specs.declared.Event.{Event}
 use Rattle.checks.specs.Checks.{Check, firstOf, checks, matchOf, numberFor, numberOf}
 use Rattle.session.specs.declared.Session.{Session}
+use Rattle.session.specs.Session.{linkOf, unfit}
 use Rattle.session.specs.Step.{judged}
+use Rattle.gate.specs.Offer.{isWaiting, heldWhole, barred}
 use Rattle.claims.specs.Steps.{number-is}
 
 -- what holds of each number of a list
@@ -72,3 +76,15 @@ module _ (P : ℕ → Type 0) where
   session-numbers p s e =
       subst P (sym (number-is s e))
       (first-check (checks (s .device) (s .requests) e (matchOf (s .requests) e)) (p .0) (p .1 .0, (p .1 .1 .1 .0, (p .1 .1 .0, (p .1 .1 .1 .1 .0, (p .1 .1 .1 .1 .1 .0, (p .1 .1 .1 .1 .1 .1 .0, (p .1 .1 .1 .1 .1 .1 .1 .0, (p .1 .1 .1 .1 .1 .1 .1 .1 .0, (p .1 .1 .1 .1 .1 .1 .1 .1 .1 .0, (p .1 .1 .1 .1 .1 .1 .1 .1 .1 .1 .0, tt)))))))))))
+
+  -- 41, 43, 3, 2, or 0 where a call can go on
+  pub barred-numbers : Each P (0 ∷ 2 ∷ 3 ∷ 41 ∷ 43 ∷ []) → (from : Side) (s : Session) (hold : List ℕ) → P (barred from s hold)
+  unfolding barred
+  barred-numbers p from s hold = go (ltb (length hold) 32784) (unfit s || heldWhole from s hold) (s .stopped) (isWaiting (linkOf from s))
+    where
+      go : (a b c d : Bool) → P (cond a 41 (cond b 43 (cond c 3 (cond d 2 0))))
+      go true b c d = p .1 .1 .1 .0
+      go false true c d = p .1 .1 .1 .1 .0
+      go false false true d = p .1 .1 .0
+      go false false false true = p .1 .0
+      go false false false false = p .0

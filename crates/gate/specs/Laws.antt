@@ -97,7 +97,8 @@ pub record Ready (from : Side) (s : Session) (hold : List ℕ) : Type 0 where
   pub running : s .stopped ≡ false
   pub speaking : isWaiting (linkOf from s) ≡ false
 
-is-more : (c : Cut) → not (isMore c) ≡ false → c ≡ more
+-- bytes that are neither a packet nor a refused header
+pub is-more : (c : Cut) → not (isMore c) ≡ false → c ≡ more
 is-more more e = refl
 is-more (bad n) e = absurd (true≢false e)
 is-more (whole n) e = absurd (true≢false e)
