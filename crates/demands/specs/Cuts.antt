@@ -466,51 +466,78 @@ rest-joined Guest h h′ T t q Host = ap (λ (b : List ℕ). b ++ t Host) (sym (
 rest-joined Host h h′ T t q Guest = ap (λ (b : List ℕ). b ++ t Guest) (sym (q Guest))
 rest-joined Host h h′ T t q Host = ap (drop (length (h Host ++ T))) (own-joined Host h T t) ∙ drop-append-seam (h Host ++ T) (t Host) ∙ ap (λ (b : List ℕ). b ++ t Host) (sym (q Host))
 
--- the claim, of a run
-abbrev Plays : Both → List Call → Type 0
-Plays x cs = play (sides (endings x cs)) (bare (x .session)) (streams x cs) ≡ behind (endings x cs) (left (final x cs))
+-- what a run leaves, with bytes r of each side behind those that it took
+abbrev pub leaves : Both → (Side → List ℕ) → Played
+leaves x r = record { ended = []; session = bare (x .session); rest = λ d. heldBy x d ++ r d }
 
-quiet-plays : (x : Both) (c : Call) (cs : List Call) → Quiet x (c .from) (c .piece) (answerTo x c) → Plays (next x c) cs → Plays x (c ∷ cs)
-unfolding endings final bytesTaken
-quiet-plays x c cs q ih =
-    let y : Both = next x c in
-    let o : Outcome = answerTo x c in
-    let z = none-ended (ends (o .number)) (record { from = c .from; number = o .number; handed = o .handed }) (endings y cs) (q .silent) in
-    let p : (d : Side) → streams x (c ∷ cs) d ≡ streams y cs d =
-    λ d. sym (append-assoc (heldBy x d) (of-side (c .from) (take (o .taken) (c .piece)) (λ e. []) d) (bytesTaken d y cs)) ∙ ap (λ (b : List ℕ). b ++ bytesTaken d y cs) (sym (q .held d)) in
-    let w = sym (q .same) in
-    (λ i. play (sides (z i)) (bare (x .session)) (streams x (c ∷ cs)))
-    ∙ (λ i. play (sides (endings y cs)) (w i) (λ d. p d i))
-    ∙ ih
-    ∙ (λ i. behind (sym z i) (left (final y cs)))
+-- the claim, of a run and each side's bytes b, of which it leaves r
+abbrev Plays : Both → List Call → (Side → List ℕ) → (Side → List ℕ) → Type 0
+Plays x cs b r = play (sides (endings x cs)) (bare (x .session)) (λ d. heldBy x d ++ b d) ≡ behind (endings x cs) (leaves (final x cs) r)
 
-ending-plays : (x : Both) (c : Call) (cs : List Call) → Ending x (c .from) (c .piece) (answerTo x c) → Plays (next x c) cs → Plays x (c ∷ cs)
+-- a call before a run: what it took stands before the run's bytes
+module _ (x : Both) (c : Call) (cs : List Call) (b r : Side → List ℕ) where
+  abbrev y : Both
+  y = next x c
+
+  abbrev o : Outcome
+  o = answerTo x c
+
+  abbrev T : List ℕ
+  T = take (o .taken) (c .piece)
+
+  abbrev e : Ended
+  e = record { from = c .from; number = o .number; handed = o .handed }
+
+  abbrev before : Side → List ℕ
+  before d = of-side (c .from) T (λ i. []) d ++ b d
+
+  quiet-plays : Quiet x (c .from) (c .piece) o → Plays y cs b r → Plays x (c ∷ cs) before r
+  unfolding endings final
+  quiet-plays q ih =
+      let z = none-ended (ends (o .number)) e (endings y cs) (q .silent) in
+      let a : Side → List ℕ = joined (c .from) (heldBy x) T b in
+      let p : (d : Side) → a d ≡ heldBy y d ++ b d = λ d. sym (append-assoc (heldBy x d) (of-side (c .from) T (λ i. []) d) (b d)) ∙ ap (λ (h : List ℕ). h ++ b d) (sym (q .held d)) in
+      let w = sym (q .same) in
+      (λ i. play (sides (z i)) (bare (x .session)) a)
+      ∙ (λ i. play (sides (endings y cs)) (w i) (λ d. p d i))
+      ∙ ih
+      ∙ (λ i. behind (sym z i) (leaves (final y cs) r))
+
+  ending-plays : Ending x (c .from) (c .piece) o → Plays y cs b r → Plays x (c ∷ cs) before r
+  unfolding play endings final
+  ending-plays q ih =
+      let d : Side = c .from in
+      let z = one-ended (ends (o .number)) e (endings y cs) (q .heard) in
+      let a : Side → List ℕ = joined d (heldBy x) T b in
+      let k : taking d (bare (x .session)) (a d) ≡ record { ended = e ∷ []; session = bare (y .session); size = length (heldBy x d ++ T) } =
+      ap (taking d (bare (x .session))) (own-joined d (heldBy x) T b) ∙ q .gives (b d) in
+      let p = rest-joined d (heldBy x) (heldBy y) T b (q .held) in
+      (λ i. play (sides (z i)) (bare (x .session)) a)
+      ∙ (λ i. behind (k i .ended) (play (sides (endings y cs)) (k i .session) (of-side d (drop (k i .size) (a d)) a)))
+      ∙ (λ i. behind (e ∷ []) (play (sides (endings y cs)) (bare (y .session)) (λ f. p f i)))
+      ∙ ap (behind (e ∷ [])) ih
+      ∙ (λ i. behind (sym z i) (leaves (final y cs) r))
+
+  call-plays : Quiet x (c .from) (c .piece) o ⊎ Ending x (c .from) (c .piece) o → Plays y cs b r → Plays x (c ∷ cs) before r
+  call-plays (inl q) = quiet-plays q
+  call-plays (inr q) = ending-plays q
+
+-- whatever bytes stand behind those taken
+pub plays-on : (x : Both) (cs : List Call) (r : Side → List ℕ) → Fits x → Plays x cs (λ d. bytesTaken d x cs ++ r d) r
 unfolding play endings final bytesTaken
-ending-plays x c cs q ih =
-    let y : Both = next x c in
-    let o : Outcome = answerTo x c in
-    let d : Side = c .from in
-    let e : Ended = record { from = d; number = o .number; handed = o .handed } in
-    let T : List ℕ = take (o .taken) (c .piece) in
-    let z = one-ended (ends (o .number)) e (endings y cs) (q .heard) in
-    let b : Side → List ℕ = streams x (c ∷ cs) in
-    let k : taking d (bare (x .session)) (b d) ≡ record { ended = e ∷ []; session = bare (y .session); size = length (heldBy x d ++ T) } =
-    ap (taking d (bare (x .session))) (own-joined d (heldBy x) T (λ e. bytesTaken e y cs)) ∙ q .gives (bytesTaken d y cs) in
-    let p = rest-joined d (heldBy x) (heldBy y) T (λ e. bytesTaken e y cs) (q .held) in
-    (λ i. play (sides (z i)) (bare (x .session)) b)
-    ∙ (λ i. behind (k i .ended) (play (sides (endings y cs)) (k i .session) (of-side d (drop (k i .size) (b d)) b)))
-    ∙ (λ i. behind (e ∷ []) (play (sides (endings y cs)) (bare (y .session)) (λ f. p f i)))
-    ∙ ap (behind (e ∷ [])) ih
-    ∙ (λ i. behind (sym z i) (left (final y cs)))
+plays-on x [] r f = refl
+plays-on x (c ∷ cs) r f =
+    let t : Side → List ℕ = λ d. bytesTaken d (next x c) cs in
+    subst (λ (b : Side → List ℕ). Plays x (c ∷ cs) b r)
+    (λ i d. sym (append-assoc (of-side (c .from) (take (answerTo x c .taken) (c .piece)) (λ e. []) d) (t d) (r d)) i)
+    (call-plays x c cs (λ d. t d ++ r d) r (shows x (c .from) (c .piece) f .kind) (plays-on (next x c) cs r (fits-next x c f)))
 
-pub plays : (x : Both) (cs : List Call) → Fits x → Plays x cs
-unfolding play endings final bytesTaken
-plays x [] f = λ i. record { ended = []; session = bare (x .session); rest = λ d. append-nil (heldBy x d) i }
-plays x (c ∷ cs) f = go (shows x (c .from) (c .piece) f .kind) (plays (next x c) cs (fits-next x c f))
-  where
-    go : Quiet x (c .from) (c .piece) (answerTo x c) ⊎ Ending x (c .from) (c .piece) (answerTo x c) → Plays (next x c) cs → Plays x (c ∷ cs)
-    go (inl q) ih = quiet-plays x c cs q ih
-    go (inr q) ih = ending-plays x c cs q ih
+-- and with none behind them
+pub plays : (x : Both) (cs : List Call) → Fits x → play (sides (endings x cs)) (bare (x .session)) (streams x cs) ≡ behind (endings x cs) (left (final x cs))
+plays x cs f =
+    (λ i. play (sides (endings x cs)) (bare (x .session)) (λ d. heldBy x d ++ sym (append-nil (bytesTaken d x cs)) i))
+    ∙ plays-on x cs (λ d. []) f
+    ∙ (λ i. behind (endings x cs) (record { ended = []; session = bare (final x cs .session); rest = λ d. append-nil (heldBy (final x cs) d) i }))
 
 -- ---- the theorem
 

@@ -5,6 +5,7 @@ pub mod Demand2
 pub mod Demand3
 pub mod Data
 pub mod Cuts
+pub mod Sent
 pub mod Calls
 pub mod Begun
 pub mod Marked

@@ -6,9 +6,10 @@ ghost use lib.Dec.{eqb};
 ghost use Rattle.number.specs.Bits.{hasBit};
 ghost use Rattle.device.specs.Device.{closedRow, startRows, stateAt, mistyped, maskMistyped, replacedBy, replaced, withStream, streamTo, touches, shut, closed, touched, controlRows, startDevice};
 use endpoint::Endpoint;
+use endpoint::Row;
 use endpoint::RowOf;
+use endpoint::in_mask;
 use endpoint::row_of;
-use number::has_bit;
 
 // A row: the type and the interface of its endpoint as the endpoint table gave them, and whether its stream is open.
 pub struct RowState {
@@ -91,10 +92,10 @@ pub fn state_at(rows: Rows, e: Endpoint) -> RowState
     }
 }
 
-fn is_mistyped(mask: u32, kind: u8, i: u32, r: RowState) -> bool
-    ensures { λ b. ⌜ b ≡ mistyped mask kind i r ⌝ }
+fn is_mistyped(mask: u32, kind: u8, row: Row, r: RowState) -> bool
+    ensures { λ b. ⌜ b ≡ mistyped mask kind (row .0) r ⌝ }
 {
-    has_bit(mask, i) & (r.kind != kind)
+    in_mask(mask, row) & (r.kind != kind)
 }
 
 // A row of the mask has another type than this.
@@ -104,7 +105,8 @@ pub fn mask_mistyped(rows: Rows, mask: u32, kind: u8) -> bool
     let mut i: usize = 0;
     while i < 32 {
         let r = rows.rows[i];
-        if is_mistyped(mask, kind, i as u32, r) {
+        let number = i as u8;
+        if is_mistyped(mask, kind, Row(number), r) {
             return true;
         }
         i += 1;

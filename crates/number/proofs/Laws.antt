@@ -6,8 +6,11 @@ use Prim.Native.Nat.{ℕ, zero, suc, _+_, _-_, _*_, _/_, _%_, _^_, _≤_, _<_, m
 use native.Mathlib.Nat.{pow-suc, pow-le-pow-right, zero-lt-suc, zero-min, min-zero, suc-min-suc, sub-zero, zero-sub, suc-sub-suc}
 use native.Mathlib.Numerals.{add-one}
 use native.Mathlib.Omega.{arith}
-use lib.ListN.{length, getD, set, take, drop, length-take}
-use lib.Seq.{sets, slice, drop-cons, take-nil}
+use lib.ListN.{length, getD, set, take, drop, length-take, drop-of-length-le}
+use lib.Seq.{sets, slice, drop-cons, set-out, take-nil}
+use lib.Dec.{leb}
+use borrow.Author.Tests.{leb-true, leb-false}
+use borrow.Table.Steps.{cases}
 use Rattle.number.specs.Little.{le, bytesOf}
 
 -- one byte more, in front
@@ -44,6 +47,15 @@ pub lay-step : (out s : List ℕ) (at i : ℕ) → i < length s
 lay-step out s at i h =
     let e : suc (at + i) ≡ at + (i + 1) = omega arith in
     rw (drop-cons s i 0) (ap (λ (m : ℕ). sets (set out (at + i) (getD s i 0)) m (drop (suc i) s)) e ∙ ap (λ (m : ℕ). sets (set out (at + i) (getD s i 0)) (at + (i + 1)) (drop m s)) (sym (add-one i)))
+
+-- what is laid behind the end changes nothing
+pub sets-out : (out s : List ℕ) (at : ℕ) → length out ≤ at → sets out at s ≡ out
+sets-out out [] at h = refl
+sets-out out (x ∷ s) at h = rw (set-out out at x h) (sets-out out s (suc at) (omega arith))
+
+-- so nothing is left to be laid once i is as many as there are, or as there is room for
+pub lay-none : (out s : List ℕ) (at i : ℕ) → min (length s) (length out - at) ≤ i → sets out (at + i) (drop i s) ≡ out
+lay-none out s at i h = cases (leb (length s) i) (λ e. rw (drop-of-length-le s (leb-true (length s) i e))) (λ e. let l : i < length s = leb-false (length s) i e in sets-out out (drop i s) (at + i) (omega arith))
 
 -- there is no more to take or to drop than there is
 pub take-min : (n : ℕ) (s : List ℕ) → take (min n (length s)) s ≡ take n s

@@ -81,13 +81,14 @@ pub fn put(out: &mut [u8], at: usize, n: usize, x: u64)
     }
 }
 
-// Lays src at `at`.
+// Lays src at `at`. What has no room is left out first, so that the loop is a plain copy.
 pub fn lay(out: &mut [u8], at: usize, src: &[u8])
     ensures { λ _. ⌜ now (out .exit) ≡ sets (now (out .entry)) at (now (src .entry)) ⌝ }
 {
+    let n = minimum(src.len(), saturating_sub(out.len(), at));
     let mut i: usize = 0;
-    while i < src.len() {
-        store_after(out, at, i, src[i]);
+    while i < n {
+        out[at + i] = src[i];
         i += 1;
     }
 }

@@ -1,9 +1,9 @@
 // The table of 96 places for requests that wait for their reply, by value. Every search for a packet goes through `find`.
 ghost use mathlib.Core.Path.{_≡_};
-ghost use Prim.Native.Nat.{_≤_, _<_};
 ghost use lib.ListN.{drop};
 ghost use Rattle.scan.specs.Scan.{exists};
-ghost use Rattle.requests.specs.Requests.{freePlace, freshRequests, isSetting, isData, answers, meets, hasId, lowest, told, placeAt, withPlace, taken, ends, keptOf, released, clashes, idsDiffer};
+ghost use Rattle.requests.specs.Requests.{freePlace, freshRequests, isSetting, isData, answers, meets, hasId, lowest, told, placeAt, withPlace, taken, ends, keptOf, released, idsDiffer};
+ghost use Rattle.requests.specs.Ids.{same, distinct};
 use device::Rows;
 use device::Scope;
 use device::touches_endpoint;
@@ -188,45 +188,49 @@ pub fn release(t: Requests, rows: Rows, s: Scope) -> Requests
     u
 }
 
-// A live request from a place on has this id.
-fn again(t: Requests, from: usize, id: u64) -> bool
-    requires { ⌜ from ≤ 96 ⌝ }
-    ensures { λ r. ⌜ r ≡ exists (hasId id) (drop from (t .places)) ⌝ }
+// One of these numbers, from a place on, is n.
+fn occurs(ids: &[u64], from: usize, n: u64) -> bool
+    ensures { λ r. ⌜ r ≡ exists (same n) (drop from (now (ids .entry))) ⌝ }
 {
-    let mut j = from;
-    while j < 96 {
-        let p = t.places[j];
-        if meets_query(Query::Id(id), p) {
+    let mut i = from;
+    while i < ids.len() {
+        if ids[i] == n {
             return true;
         }
-        j += 1;
+        i += 1;
     }
     false
 }
 
-// The place is live, and a later one has its id.
-fn clash(t: Requests, i: usize) -> bool
-    requires { ⌜ i < 96 ⌝ }
-    ensures { λ r. ⌜ r ≡ clashes (drop i (t .places)) ⌝ }
-{
-    let p = t.places[i];
-    if !p.live {
-        return false;
-    }
-    let q = p.request;
-    again(t, i + 1, q.id)
-}
-
-// No two live requests have one id.
-pub fn ids_differ(t: Requests) -> bool
-    ensures { λ r. ⌜ r ≡ idsDiffer (t .places) ⌝ }
+// None of these numbers stands there twice.
+fn all_differ(ids: &[u64]) -> bool
+    ensures { λ r. ⌜ r ≡ distinct (now (ids .entry)) ⌝ }
 {
     let mut i: usize = 0;
-    while i < 96 {
-        if clash(t, i) {
+    while i < ids.len() {
+        if occurs(ids, i + 1, ids[i]) {
             return false;
         }
         i += 1;
     }
     true
+}
+
+// No two live requests have one id. The ids are gathered first: few requests live at a time.
+pub fn ids_differ(t: Requests) -> bool
+    ensures { λ r. ⌜ r ≡ idsDiffer (t .places) ⌝ }
+{
+    let mut ids: [u64; 96] = [0; 96];
+    let mut n: usize = 0;
+    let mut i: usize = 0;
+    while i < 96 {
+        let p = t.places[i];
+        if p.live {
+            let q = p.request;
+            ids[n] = q.id;
+            n += 1;
+        }
+        i += 1;
+    }
+    all_differ(&ids[..n])
 }

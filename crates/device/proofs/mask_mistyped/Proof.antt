@@ -26,8 +26,8 @@ mul-r c = search needs
 element-copy-out-r : tie.Need-element-copy-out-r Inv-loop μ-loop
 element-copy-out-r c = search needs
 
-cast-is-mistyped : tie.Need-cast-is-mistyped Inv-loop μ-loop
-cast-is-mistyped c = search needs
+cast-number : tie.Need-cast-number Inv-loop μ-loop
+cast-number c = search needs
 
 is-mistyped-requires : tie.Need-is-mistyped-requires Inv-loop μ-loop
 is-mistyped-requires c κs = search needs
@@ -65,7 +65,7 @@ mask-mistyped-spec =
     loop-holds
     mul-r
     element-copy-out-r
-    cast-is-mistyped
+    cast-number
     is-mistyped-requires
     returns
     add-i

@@ -1,0 +1,37 @@
+//! Links the proved gate, `libdrive.a`, as `rt staticlib drive` puts it under `target/staticlib`, and, with the feature `parser`, the
+//! host of libusbredirparser.
+
+use std::env;
+use std::path::{Path, PathBuf};
+use std::process::Command;
+
+fn main() {
+    let manifest = env::var_os("CARGO_MANIFEST_DIR").expect("set by cargo");
+    let libraries = match env::var_os("DRIVE_DIR") {
+        Some(directory) => PathBuf::from(directory),
+        None => Path::new(&manifest).join("../target/staticlib"),
+    };
+    println!("cargo:rerun-if-env-changed=DRIVE_DIR");
+    println!("cargo:rerun-if-changed={}", libraries.join("libdrive.a").display());
+    println!("cargo:rustc-link-search=native={}", libraries.display());
+    println!("cargo:rustc-link-lib=static=drive");
+    if env::var_os("CARGO_FEATURE_PARSER").is_some() {
+        link_parser();
+    }
+}
+
+fn link_parser() {
+    let out = PathBuf::from(env::var_os("OUT_DIR").expect("set by cargo"));
+    println!("cargo:rerun-if-changed=src/parser.c");
+    let object = out.join("parser.o");
+    run(Command::new("cc").args(["-O3", "-Wall", "-Wextra", "-c", "src/parser.c", "-o"]).arg(&object));
+    run(Command::new("ar").arg("crs").arg(out.join("libhost.a")).arg(&object));
+    println!("cargo:rustc-link-search=native={}", out.display());
+    println!("cargo:rustc-link-lib=static=host");
+    println!("cargo:rustc-link-lib=usbredirparser");
+}
+
+fn run(command: &mut Command) {
+    let status = command.status().expect("the command runs");
+    assert!(status.success(), "{command:?}: {status}");
+}
