@@ -25,6 +25,7 @@ use Rattle.kinds.specs.Number.{isGuest, badFields, badTail, badId, bad, isNone,
 use Rattle.kinds.specs.Laws.{isNone-left, first-good}
 use Rattle.rows.specs.Rows.{column}
 use Rattle.scan.specs.Scan.{eachAt}
+use Rattle.device.specs.declared.Device.{Device}
 use Rattle.device.specs.declared.Rows.{Rows}
 use Rattle.device.specs.declared.Scope.{Scope}
 use Rattle.device.specs.declared.Scope.the-variants.{Everywhere}
@@ -44,7 +45,7 @@ use Rattle.checks.specs.declared.Match.{Match}
 use Rattle.checks.specs.declared.Match.the-variants.{Unmatched, Matched}
 use Rattle.checks.specs.Checks.{traitsOf, isSome, matchOf}
 use Rattle.session.specs.declared.Session.{Session}
-use Rattle.session.specs.Session.{freshSession, linkOf, unfit}
+use Rattle.session.specs.Session.{freshSession, linkOf, isShared, unfit}
 use Rattle.session.specs.Step.{keptHello, isHello, streamBy, opens, scopeOf, replyRows, deviceAfter, takenAt, answered, nextFor, judged}
 use Rattle.scan.specs.Logic.{and-whole, fails}
 use Rattle.claims.specs.Steps.{after, step, none-held, Role, leaving, asking, answering, ending, roleOf, requestsBy, Does, does, next-requests, Clean, clean}
@@ -94,26 +95,26 @@ module _ (P : Rows → Type 0) (start : P startRows) (close : (d : Rows) (c : Sc
   replies : (d : Rows) (e : Event) (m : Match) → P d → P (replyRows d e m)
   replies d e m h = close (streamBy d (e .typed) (opens e m)) (scopeOf e m) (streams d (e .typed) (opens e m) h)
 
-  device-holds : (s : Session) (e : Event) (m : Match) → P (s .device .rows) → P (replaced (e .rows) (s .device .rows)) → (c : Class) → P (deviceAfter c s e m .rows)
+  device-holds : (d : Device) (ack : Bool) (e : Event) (m : Match) → P (d .rows) → P (replaced (e .rows) (d .rows)) → (c : Class) → P (deviceAfter c d ack e m .rows)
   unfolding startDevice
-  device-holds s e m h r HelloClass = h
-  device-holds s e m h r Connect = h
-  device-holds s e m h r Interfaces = h
-  device-holds s e m h r Endpoints = r
-  device-holds s e m h r Disconnect = start
-  device-holds s e m h r Reset = close (s .device .rows) Everywhere h
-  device-holds s e m h r Ack = h
-  device-holds s e m h r Cancel = h
-  device-holds s e m h r Filter = h
-  device-holds s e m h r StartRequest = streams (s .device .rows) (e .typed) true h
-  device-holds s e m h r PlainRequest = h
-  device-holds s e m h r StreamStatus = replies (s .device .rows) e m h
-  device-holds s e m h r PlainReply = replies (s .device .rows) e m h
-  device-holds s e m h r StreamData = h
+  device-holds d ack e m h r HelloClass = h
+  device-holds d ack e m h r Connect = h
+  device-holds d ack e m h r Interfaces = h
+  device-holds d ack e m h r Endpoints = r
+  device-holds d ack e m h r Disconnect = start
+  device-holds d ack e m h r Reset = close (d .rows) Everywhere h
+  device-holds d ack e m h r Ack = h
+  device-holds d ack e m h r Cancel = h
+  device-holds d ack e m h r Filter = h
+  device-holds d ack e m h r StartRequest = streams (d .rows) (e .typed) true h
+  device-holds d ack e m h r PlainRequest = h
+  device-holds d ack e m h r StreamStatus = replies (d .rows) e m h
+  device-holds d ack e m h r PlainReply = replies (d .rows) e m h
+  device-holds d ack e m h r StreamData = h
 
   rows-hold : (s : Session) (e : Event) → P (s .device .rows) → P (replaced (e .rows) (s .device .rows)) → P (after s e .device .rows)
   unfolding nextFor
-  rows-hold s e h r = step s e (λ (x : Session). P (x .device .rows)) h (λ z. device-holds s e (matchOf (s .requests) e) h r (e .class))
+  rows-hold s e h r = step s e (λ (x : Session). P (x .device .rows)) h (λ z. device-holds (s .device) (isShared s 3) e (matchOf (s .requests) e) h r (e .class))
 
 -- where rows 0 and 16 are control, they still are, if they are so in the rows that the packet announces
 pub kept-control : (s : Session) (e : Event) → controlRows (s .device .rows) ≡ true → length (s .device .rows .rows) ≡ 32 → controlRows (e .rows) ≡ true → controlRows (after s e .device .rows) ≡ true

@@ -143,7 +143,7 @@ Unasked c ending = Unit {0}
 -- what the checks ask of a class of this role, and what it does
 abbrev pub Does : Class → Role → Type 0
 Does c r =
-    (traitsOf c .request ≡ isAsking r) × (traitsOf c .reply ≡ isAnswering r) × Unasked c r × ((s : Session) (e : Event) (m : Match) → requestsAfter c s e m ≡ requestsBy r s e m)
+    (traitsOf c .request ≡ isAsking r) × (traitsOf c .reply ≡ isAnswering r) × Unasked c r × ((s : Session) (e : Event) (m : Match) → requestsAfter c (s .requests) (s .device .rows) e m ≡ requestsBy r s e m)
 
 pub does : (c : Class) → Does c (roleOf c)
 does Hello = (refl, refl, tt, λ s e m. refl)

@@ -20,17 +20,14 @@ use Rattle.header.specs.declared.Link.{Link}
 use Rattle.header.specs.Header.{kindOf, lengthOf}
 use Rattle.kinds.specs.Codec.{decode, readNumber}
 use Rattle.decoder.specs.Reading.{Handed, readOf}
-use Rattle.events.specs.declared.Class.{Class}
-use Rattle.events.specs.declared.Class.the-variants.{Hello as HelloClass, Connect, Interfaces, Endpoints, Disconnect, Reset, Ack, Cancel, Filter, StartRequest, PlainRequest, StreamStatus, PlainReply, StreamData}
 use Rattle.events.specs.declared.Event.{Event}
 use Rattle.events.specs.Event.{eventOf}
-use Rattle.checks.specs.declared.Match.{Match}
 use Rattle.checks.specs.Checks.{matchOf, numberFor}
 use Rattle.session.specs.declared.Held.{Held}
 use Rattle.session.specs.declared.Session.{Session}
 use Rattle.session.specs.declared.Judged.{Judged}
 use Rattle.session.specs.Session.{linkOf}
-use Rattle.session.specs.Step.{deviceAfter, requestsAfter, nextFor, judged}
+use Rattle.session.specs.Step.{nextFor, judged}
 use Rattle.claims.specs.Allowed.{among}
 use Rattle.claims.specs.Kept.{kept-plain}
 use Rattle.roundtrip.specs.Cut.{Cut, more, bad, whole, cutOf}
@@ -137,51 +134,12 @@ bare-held : (d : Side) (n : ℕ) (s : Session) → bare (heldAs d n s) ≡ bare 
 bare-held Guest n s = refl
 bare-held Host n s = refl
 
-device-as : (d : Side) (n : ℕ) (s : Session) (e : Event) (m : Match) (c : Class) → deviceAfter c (heldAs d n s) e m ≡ deviceAfter c s e m
-device-as d n s e m HelloClass = refl
-device-as d n s e m Connect = refl
-device-as d n s e m Interfaces = refl
-device-as d n s e m Endpoints = refl
-device-as d n s e m Disconnect = refl
-device-as d n s e m Reset = refl
-device-as d n s e m Ack = refl
-device-as d n s e m Cancel = refl
-device-as d n s e m Filter = refl
-device-as d n s e m StartRequest = refl
-device-as d n s e m PlainRequest = refl
-device-as d n s e m StreamStatus = refl
-device-as d n s e m PlainReply = refl
-device-as d n s e m StreamData = refl
-
-requests-as : (d : Side) (n : ℕ) (s : Session) (e : Event) (m : Match) (c : Class) → requestsAfter c (heldAs d n s) e m ≡ requestsAfter c s e m
-requests-as d n s e m HelloClass = refl
-requests-as d n s e m Connect = refl
-requests-as d n s e m Interfaces = refl
-requests-as d n s e m Endpoints = refl
-requests-as d n s e m Disconnect = refl
-requests-as d n s e m Reset = refl
-requests-as d n s e m Ack = refl
-requests-as d n s e m Cancel = refl
-requests-as d n s e m Filter = refl
-requests-as d n s e m StartRequest = refl
-requests-as d n s e m PlainRequest = refl
-requests-as d n s e m StreamStatus = refl
-requests-as d n s e m PlainReply = refl
-requests-as d n s e m StreamData = refl
-
-next-as : (d : Side) (n : ℕ) (s : Session) (e : Event) (m : Match) → nextFor (heldAs d n s) e m ≡ heldAs d n (nextFor s e m)
-unfolding nextFor
-next-as d n s e m =
-    let a = device-as d n s e m (e .class) in
-    let b = requests-as d n s e m (e .class) in
-    λ i. record { guest = nextFor s e m .guest; host = nextFor s e m .host; stopped = s .stopped; held = heldAs d n s .held; device = a i; requests = b i }
-
 -- the judge does not look at what is held, and leaves it
 judged-as : (d : Side) (n : ℕ) (s : Session) (e : Event) → judged (heldAs d n s) e ≡ record { session = heldAs d n (judged s e .session); number = judged s e .number }
-unfolding judged
+unfolding judged nextFor
 judged-as d n s e =
     cases (eqb (numberFor (s .device) (s .requests) e (matchOf (s .requests) e)) 0)
-    (λ t. rw t (ap (λ (u : Session). record { session = u; number = 0 }) (next-as d n s e (matchOf (s .requests) e))))
+    (λ t. rw t refl)
     (λ t. rw t refl)
 
 refused-as : (d : Side) (n : ℕ) (s : Session) (kind : ℕ) → refusedAs (heldAs d n s) kind ≡ heldAs d n (refusedAs s kind)

@@ -4,12 +4,13 @@ use Prim.Native.Nat.{ℕ, zero, suc, _+_, _-_, _≤_, _<_, min}
 use native.Mathlib.Numerals.{add-one}
 use native.Mathlib.Omega.{arith}
 use mathlib.Core.Path.{_≡_, refl, sym, ap, _∙_}
-use mathlib.Core.Bool.{Bool, true, false, cond, not, _||_, false≢true}
+use mathlib.Core.Bool.{Bool, true, false, cond, not, _&&_, _||_, and-true, or-false, false≢true}
+use mathlib.Core.Logic.{_⊎_, inl, inr}
 use mathlib.Core.List.{List, [], _∷_, _++_, append-nil}
 use lib.ListN.{length, getD, set, take, drop, length-take, length-drop, drop-of-length-le}
 use lib.Seq.{sets, sets-eq, length-sets, length-take-le, take-all, take-at, take-take, take-suc, getD-drop, getD-set-other}
-use lib.Dec.{T, ltb}
-use borrow.Author.Tests.{lt-ltb, le-ltb, ltb-false}
+use lib.Dec.{T, eqb, ltb}
+use borrow.Author.Tests.{lt-ltb, le-ltb, ltb-false, eqb-true, eqb-false, eq-eqb, ne-eqb}
 use borrow.Rule.Slice.PartMut.{putMid, take-put}
 use lib.IntN.{ℤ, pos, negsuc, natAbs}
 use lib.Signed.{ltZ, nonNeg}
@@ -20,10 +21,10 @@ use Rattle.number.specs.Laws.{sets-append}
 use Rattle.capture.specs.Lines.{lineOf}
 use Rattle.transcript.specs.declared.Lined.{Lined}
 use Rattle.transcript.specs.declared.Next.the-variants.{Line, Wait}
-use Rattle.transcript.specs.Input.{stepOf, nextOf, LineReports}
+use Rattle.transcript.specs.Input.{stepOf, nextOf, LineReports, start as started}
 use Rattle.transcript.specs.Parts.{prints-short, next-within, wait-few}
 use Rattle.report.specs.declared.State.{State}
-use Rattle.report.specs.Program.{Fits, progress, lineStep, Writes, Prints}
+use Rattle.report.specs.Program.{Fits, progress, begun, movedOf, lineStep, Writes, Prints, Memory, memory, beginning, Steps, Turns, begin, turn}
 
 -- a number above 0 is the same without its sign
 positive : (z : ℤ) → SFits w64 z → ltZ (pos 0) z ≡ true → T (nonNeg z) × Holds w64 (natAbs z)
@@ -32,6 +33,29 @@ positive (negsuc n) f t = absurd (false≢true t)
 
 pub told-count : (z : ℤ) → SFits w64 z → ltZ (pos 0) (toZ w64 (ofZ w64 z)) ≡ true → T (nonNeg (toZ w64 (ofZ w64 z))) × Holds w64 (natAbs (toZ w64 (ofZ w64 z)))
 told-count z f t = rw (toZ-ofZ w64 z f) (positive z f (rw (toZ-ofZ w64 z f) at t))
+
+-- how many bytes were moved, where it is above 0 and where it is not
+positive-moved : (z : ℤ) (most : ℕ) → ltZ (pos 0) z ≡ true → min (natAbs z) most ≡ movedOf z most
+positive-moved (pos n) most t = refl
+positive-moved (negsuc n) most t = absurd (false≢true t)
+
+nothing-moved : (z : ℤ) (most : ℕ) → ltZ (pos 0) z ≡ false → 0 ≡ movedOf z most
+nothing-moved (pos n) most t = omega (arith, ltb-false 0 n t)
+nothing-moved (negsuc n) most t = refl
+
+pub told-moved : (z : ℤ) (most : ℕ) → SFits w64 z → ltZ (pos 0) (toZ w64 (ofZ w64 z)) ≡ true → min (natAbs (toZ w64 (ofZ w64 z))) most ≡ movedOf z most
+told-moved z most f t = rw (toZ-ofZ w64 z f) (positive-moved z most (rw (toZ-ofZ w64 z f) at t))
+
+pub told-none : (z : ℤ) (most : ℕ) → SFits w64 z → ltZ (pos 0) (toZ w64 (ofZ w64 z)) ≡ false → 0 ≡ movedOf z most
+told-none z most f t = nothing-moved z most (rw (toZ-ofZ w64 z f) at t)
+
+-- nothing came where the end is where it was
+pub none-came : (n got : ℕ) → eqb got 0 ≡ eqb (n + got) n
+none-came n got = go (eqb got 0) refl
+  where
+    go : (b : Bool) → eqb got 0 ≡ b → b ≡ eqb (n + got) n
+    go true e = sym (eq-eqb (n + got) n (omega (arith, eqb-true got 0 e)))
+    go false e = sym (ne-eqb (n + got) n (λ q. eqb-false got 0 e (omega arith)))
 
 -- a byte behind what is stored stays
 pub getD-sets-past : (xs l : List ℕ) (i j : ℕ) → i + length xs ≤ j → getD (sets l i xs) j 0 ≡ getD l j 0
@@ -86,10 +110,10 @@ sets-part a l xs h =
 module _ (p : State) where
   pub writes-much : 22528 < p .size → (w : Bool)
       → Writes p (record { session = p .session; totals = p .totals; start = p .start; end = p .end; last = p .last; size = 0; over = p .over || not w })
-  writes-much h w = record { state = rw (lt-ltb 22528 (p .size) h); over = λ e. rw e }
+  writes-much h w = record { state = rw (lt-ltb 22528 (p .size) h); failed = not w; over = rw (lt-ltb 22528 (p .size) h) }
 
   pub writes-not : p .size ≤ 22528 → Writes p p
-  writes-not h = record { state = rw (le-ltb 22528 (p .size) h); over = λ e. e }
+  writes-not h = record { state = rw (le-ltb 22528 (p .size) h); failed = false; over = rw (le-ltb 22528 (p .size) h) (sym (or-false (p .over))) }
 
 -- a line of k bytes, as the code lends it
 pub line-is : (l : List ℕ) (start k : ℕ) → take (start + k - start) (drop start l) ≡ take k (drop start l)
@@ -143,5 +167,30 @@ module _ (p : State) (f : Fits p) (k : ℕ) (guest host input out : List ℕ) {l
           start = start;
           end = end;
           last = ap (λ (x : State). x .last) (w .state);
-          bad = λ e. w .over (s .bad ∙ e);
+          failed = w .failed;
+          over = w .over ∙ rw (s .bad, line-size);
         }
+
+-- ---- a run
+
+pub run-begins : (p : State) (guest host input out : List ℕ) → p ≡ begun → guest ≡ started .guest → host ≡ started .host
+    → Turns (beginning input out) (memory p guest host input out) 0
+run-begins p guest host input out e g h = rw (e, g, h) begin
+
+pub begun-fits : (p : State) → p ≡ begun → Fits p
+begun-fits p e = rw e (record { order = omega arith; within = omega arith; room = omega arith })
+
+-- where so many turns are left
+pub run-goes : {m n o : Memory} (left : ℕ) → 0 < left → left ≤ 18446744073709551615 → Turns m n (18446744073709551615 - left) → n .state .over ≡ false → Steps n o
+    → Turns m o (18446744073709551615 - (left - 1))
+run-goes left h w t e s =
+    let q : 18446744073709551615 - (left - 1) ≡ suc (18446744073709551615 - left) = omega arith in
+    rw q (turn t e s)
+
+pub not-over : (b : Bool) → not b ≡ true → b ≡ false
+not-over true e = absurd (false≢true e)
+not-over false e = refl
+
+pub run-ends : (left : ℕ) (b : Bool) → (ltb 0 left && not b) ≡ false → (b ≡ true) ⊎ (18446744073709551615 - left ≡ 18446744073709551615)
+run-ends left true e = inl refl
+run-ends left false e = inr (omega (arith, ltb-false 0 left (sym (and-true (ltb 0 left)) ∙ e)))

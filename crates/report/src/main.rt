@@ -2,9 +2,12 @@
 // the totals. It holds a part of the input and a part of the output, in buffers that do not grow.
 ghost use Prim.Native.Nat.{_+_, _≤_};
 ghost use mathlib.Core.Path.{_≡_};
+ghost use mathlib.Core.Bool.{true};
 ghost use lib.ListN.{length, take, drop};
 ghost use lib.Seq.{sets};
-ghost use Rattle.report.specs.Program.{Fits, Prints, Writes, ReadsMore};
+ghost use Rattle.capture.specs.Lines.{totalsLine};
+ghost use Rattle.transcript.specs.Input.{start as started};
+ghost use Rattle.report.specs.Program.{Fits, begun, movedOf, Prints, Writes, ReadsMore, memory, beginning, Steps, Runs, Reports};
 use capture::form_totals;
 use libc::STDIN_FILENO;
 use libc::STDOUT_FILENO;
@@ -29,7 +32,7 @@ struct State {
 }
 
 fn begin() -> State
-    ensures { λ r. ⌜ Fits r ⌝ }
+    ensures { λ r. ⌜ r ≡ begun ⌝ }
 {
     let session = fresh_session();
     let totals = Totals {
@@ -49,7 +52,7 @@ fn begin() -> State
 
 // How many bytes a call of C's moved, of so many; none where it failed.
 fn moved(got: isize, most: usize) -> usize
-    ensures { λ r. ⌜ r ≤ most ⌝ }
+    ensures { λ r. ⌜ (r ≡ movedOf got most) × (r ≤ most) ⌝ }
 {
     if got > 0 {
         minimum(got as usize, most)
@@ -87,8 +90,10 @@ fn read_more(p: State, input: &mut [u8]) -> State
     next
 }
 
-// Writes all of s, or tells that a write failed.
-fn write_all(s: &[u8]) -> bool {
+// Writes all of s, or tells that a write failed. Which bytes a write takes, and whether it fails, is C's alone; for no bytes there is none.
+fn write_all(s: &[u8]) -> bool
+    ensures { λ r. ⌜ (length (now (s .entry)) ≡ 0 → r ≡ true) ⌝ }
+{
     let mut done: usize = 0;
     while done < s.len() {
         let n = moved(libc::write(STDOUT_FILENO, &s[done..]), s.len() - done);
@@ -100,7 +105,7 @@ fn write_all(s: &[u8]) -> bool {
     true
 }
 
-// Writes the output, where it leaves no room for that of another line.
+// Writes the output, where it leaves no room for that of another line. A write that fails ends the input.
 fn write_much(p: State, out: &[u8]) -> State
     requires { ⌜ p .size ≤ length (now out) ⌝ }
     ensures { λ r. ⌜ Writes p r ⌝ }
@@ -157,7 +162,7 @@ fn print_line(
 // A line is reported, or more is read, or the input is over.
 fn step(p: State, guest: &mut [u8], host: &mut [u8], input: &mut [u8], out: &mut [u8]) -> State
     requires { ⌜ Fits p × (length (now input) ≡ 65536) × (length (now out) ≡ 262144) ⌝ }
-    ensures { λ r. ⌜ Fits r ⌝ }
+    ensures { λ r. ⌜ Steps (memory p (now (guest .entry)) (now (host .entry)) (now (input .entry)) (now (out .entry))) (memory r (now (guest .exit)) (now (host .exit)) (now (input .exit)) (now (out .exit))) ⌝ }
 {
     let start = p.start;
     let end = p.end;
@@ -177,8 +182,8 @@ fn step(p: State, guest: &mut [u8], host: &mut [u8], input: &mut [u8], out: &mut
 
 // A proved loop has to end, and nothing says that the input does. So the loop counts its turns down, from a number that no run uses up.
 fn run(guest: &mut [u8], host: &mut [u8], input: &mut [u8], out: &mut [u8]) -> State
-    requires { ⌜ (length (now input) ≡ 65536) × (length (now out) ≡ 262144) ⌝ }
-    ensures { λ r. ⌜ Fits r ⌝ }
+    requires { ⌜ (now guest ≡ started .guest) × (now host ≡ started .host) × (length (now input) ≡ 65536) × (length (now out) ≡ 262144) ⌝ }
+    ensures { λ r. ⌜ Runs (beginning (now (input .entry)) (now (out .entry))) (memory r (now (guest .exit)) (now (host .exit)) (now (input .exit)) (now (out .exit))) ⌝ }
 {
     let mut p = begin();
     let mut turns: u64 = 18446744073709551615;
@@ -192,6 +197,7 @@ fn run(guest: &mut [u8], host: &mut [u8], input: &mut [u8], out: &mut [u8]) -> S
 // Prints the totals behind the output that is not written yet.
 fn print_totals(p: State, out: &mut [u8])
     requires { ⌜ Fits p × (length (now out) ≡ 262144) ⌝ }
+    ensures { λ _. ⌜ now (out .exit) ≡ sets (now (out .entry)) (p .size) (totalsLine (p .totals .passed) (p .totals .refused) (p .session .stopped)) ⌝ }
 {
     let totals = p.totals;
     let session = p.session;
@@ -200,11 +206,19 @@ fn print_totals(p: State, out: &mut [u8])
     write_all(&out[..size + n]);
 }
 
+// Reports the whole input.
+fn report_input(guest: &mut [u8], host: &mut [u8], input: &mut [u8], out: &mut [u8])
+    requires { ⌜ (now guest ≡ started .guest) × (now host ≡ started .host) × (length (now input) ≡ 65536) × (length (now out) ≡ 262144) ⌝ }
+    ensures { λ _. ⌜ Reports (now (input .entry)) (now (out .entry)) (now (guest .exit)) (now (host .exit)) (now (input .exit)) (now (out .exit)) ⌝ }
+{
+    let p = run(guest, host, input, out);
+    print_totals(p, out);
+}
+
 fn main() {
     let mut guest = [0u8; 32784];
     let mut host = [0u8; 32784];
     let mut input = [0u8; 65536];
     let mut out = [0u8; 262144];
-    let p = run(&mut guest, &mut host, &mut input, &mut out);
-    print_totals(p, &mut out);
+    report_input(&mut guest, &mut host, &mut input, &mut out);
 }

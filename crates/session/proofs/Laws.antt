@@ -2,7 +2,7 @@
 -- Assumes nothing.
 use Prim.Native.Nat.{ℕ}
 use mathlib.Core.Path.{_≡_, sym, ap, _∙_}
-use mathlib.Core.Bool.{false}
+use mathlib.Core.Bool.{Bool, false}
 use lib.Dec.{eqb}
 use Rattle.device.specs.declared.Device.{Device}
 use Rattle.device.specs.declared.Rows.{Rows}
@@ -33,12 +33,12 @@ answered-by t rows e m i q is u freed s ends = (λ j. released (freed j) rows ((
 
 -- ---- the device and the requests after a packet, by its class as the arm has it
 
-module _ (s : Session) (e : Event) (m : Match) (k : Class) (is : e .class ≡ k) where
-  pub device-by : (d : Device) → d ≡ deviceAfter k s e m → d ≡ deviceAfter (e .class) s e m
-  device-by d v = v ∙ ap (λ (c : Class). deviceAfter c s e m) (sym is)
+module _ (e : Event) (m : Match) (k : Class) (is : e .class ≡ k) where
+  pub device-by : (d : Device) (ack : Bool) (next : Device) → next ≡ deviceAfter k d ack e m → next ≡ deviceAfter (e .class) d ack e m
+  device-by d ack next v = v ∙ ap (λ (c : Class). deviceAfter c d ack e m) (sym is)
 
-  pub requests-by : (t : Requests) → t ≡ requestsAfter k s e m → t ≡ requestsAfter (e .class) s e m
-  requests-by t v = v ∙ ap (λ (c : Class). requestsAfter c s e m) (sym is)
+  pub requests-by : (t : Requests) (rows : Rows) (next : Requests) → next ≡ requestsAfter k t rows e m → next ≡ requestsAfter (e .class) t rows e m
+  requests-by t rows next v = v ∙ ap (λ (c : Class). requestsAfter c t rows e m) (sym is)
 
 -- ---- the judge's answer: m and n are the match and the number that the checks gave
 

@@ -94,21 +94,22 @@ scopeOf e (Matched i q) =
 abbrev pub replyRows : Rows → Event → Match → Rows
 replyRows rows e m = closed (streamBy rows (e .typed) (opens e m)) (scopeOf e m)
 
-abbrev pub deviceAfter : Class → Session → Event → Match → Device
-deviceAfter HelloClass s e m = s .device
-deviceAfter Connect s e m = connected (s .device)
-deviceAfter Interfaces s e m = introduced Two (s .device)
-deviceAfter Endpoints s e m = introduced One (withRows (s .device) (replaced (e .rows) (s .device .rows)))
-deviceAfter Disconnect s e m = startDevice (isShared s 3)
-deviceAfter Reset s e m = withRows (s .device) (closed (s .device .rows) Everywhere)
-deviceAfter Ack s e m = acknowledged (s .device)
-deviceAfter Cancel s e m = s .device
-deviceAfter Filter s e m = s .device
-deviceAfter StartRequest s e m = withRows (s .device) (streamBy (s .device .rows) (e .typed) true)
-deviceAfter PlainRequest s e m = s .device
-deviceAfter StreamStatus s e m = withRows (s .device) (replyRows (s .device .rows) e m)
-deviceAfter PlainReply s e m = withRows (s .device) (replyRows (s .device .rows) e m)
-deviceAfter StreamData s e m = s .device
+-- the device after a packet of a class; ack: whether bit 3 is shared, "with bit 3 an ack is owed"
+abbrev pub deviceAfter : Class → Device → Bool → Event → Match → Device
+deviceAfter HelloClass d ack e m = d
+deviceAfter Connect d ack e m = connected d
+deviceAfter Interfaces d ack e m = introduced Two d
+deviceAfter Endpoints d ack e m = introduced One (withRows d (replaced (e .rows) (d .rows)))
+deviceAfter Disconnect d ack e m = startDevice ack
+deviceAfter Reset d ack e m = withRows d (closed (d .rows) Everywhere)
+deviceAfter Ack d ack e m = acknowledged d
+deviceAfter Cancel d ack e m = d
+deviceAfter Filter d ack e m = d
+deviceAfter StartRequest d ack e m = withRows d (streamBy (d .rows) (e .typed) true)
+deviceAfter PlainRequest d ack e m = d
+deviceAfter StreamStatus d ack e m = withRows d (replyRows (d .rows) e m)
+deviceAfter PlainReply d ack e m = withRows d (replyRows (d .rows) e m)
+deviceAfter StreamData d ack e m = d
 
 -- ---- the requests
 
@@ -125,21 +126,22 @@ abbrev pub answered : Requests → Rows → Event → Match → Requests
 answered t rows e Unmatched = t
 answered t rows e (Matched i q) = released (withPlace t i freePlace) rows (scopeOf e (Matched i q))
 
-abbrev pub requestsAfter : Class → Session → Event → Match → Requests
-requestsAfter HelloClass s e m = s .requests
-requestsAfter Connect s e m = s .requests
-requestsAfter Interfaces s e m = s .requests
-requestsAfter Endpoints s e m = s .requests
-requestsAfter Disconnect s e m = freshRequests
-requestsAfter Reset s e m = freshRequests
-requestsAfter Ack s e m = s .requests
-requestsAfter Cancel s e m = s .requests
-requestsAfter Filter s e m = s .requests
-requestsAfter StartRequest s e m = asked (s .requests) (e .request)
-requestsAfter PlainRequest s e m = asked (s .requests) (e .request)
-requestsAfter StreamStatus s e m = answered (s .requests) (s .device .rows) e m
-requestsAfter PlainReply s e m = answered (s .requests) (s .device .rows) e m
-requestsAfter StreamData s e m = s .requests
+-- the requests after a packet of a class
+abbrev pub requestsAfter : Class → Requests → Rows → Event → Match → Requests
+requestsAfter HelloClass t rows e m = t
+requestsAfter Connect t rows e m = t
+requestsAfter Interfaces t rows e m = t
+requestsAfter Endpoints t rows e m = t
+requestsAfter Disconnect t rows e m = freshRequests
+requestsAfter Reset t rows e m = freshRequests
+requestsAfter Ack t rows e m = t
+requestsAfter Cancel t rows e m = t
+requestsAfter Filter t rows e m = t
+requestsAfter StartRequest t rows e m = asked t (e .request)
+requestsAfter PlainRequest t rows e m = asked t (e .request)
+requestsAfter StreamStatus t rows e m = answered t rows e m
+requestsAfter PlainReply t rows e m = answered t rows e m
+requestsAfter StreamData t rows e m = t
 
 -- ---- the session after a packet that passed, and the judge's answer
 
@@ -150,8 +152,8 @@ nextFor s e m =
       host = helloAfter (e .class) (not (isGuest (e .sender))) (e .word) (s .host);
       stopped = s .stopped;
       held = s .held;
-      device = deviceAfter (e .class) s e m;
-      requests = requestsAfter (e .class) s e m;
+      device = deviceAfter (e .class) (s .device) (isShared s 3) e m;
+      requests = requestsAfter (e .class) (s .requests) (s .device .rows) e m;
     }
 
 -- "A refused packet changes no endpoint, stream or outstanding request": it leaves the session as it was

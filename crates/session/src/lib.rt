@@ -262,12 +262,11 @@ fn reply_rows(rows: Rows, e: Event, m: Match) -> Rows
     close_streams(moved, scope_of(e, m))
 }
 
-// The device after a packet that passed.
-fn device_after(s: Session, e: Event, m: Match) -> Device
-    ensures { λ r. ⌜ r ≡ deviceAfter (e .class) s e m ⌝ }
+// The device after a packet that passed; a disconnect leaves an ack owed or not.
+fn device_after(d: Device, ack: bool, e: Event, m: Match) -> Device
+    ensures { λ r. ⌜ r ≡ deviceAfter (e .class) d ack e m ⌝ }
 {
     let c = e.class;
-    let d = s.device;
     let rows = d.rows;
     let announced = e.rows;
     let typed = e.typed;
@@ -276,7 +275,7 @@ fn device_after(s: Session, e: Event, m: Match) -> Device
         Class::Connect => connect(d),
         Class::Interfaces => introduce(d, Introduction::Two),
         Class::Endpoints => introduce(with_rows(d, replace(rows, announced)), Introduction::One),
-        Class::Disconnect => start_device(is_shared(s, 3)),
+        Class::Disconnect => start_device(ack),
         Class::Reset => with_rows(d, close(rows, Scope::Everywhere)),
         Class::Ack => acknowledge(d),
         Class::Cancel => d,
@@ -323,13 +322,10 @@ fn answer(t: Requests, rows: Rows, e: Event, m: Match) -> Requests
 }
 
 // The requests after a packet that passed.
-fn requests_after(s: Session, e: Event, m: Match) -> Requests
-    ensures { λ r. ⌜ r ≡ requestsAfter (e .class) s e m ⌝ }
+fn requests_after(t: Requests, rows: Rows, e: Event, m: Match) -> Requests
+    ensures { λ r. ⌜ r ≡ requestsAfter (e .class) t rows e m ⌝ }
 {
     let c = e.class;
-    let t = s.requests;
-    let d = s.device;
-    let rows = d.rows;
     let q = e.request;
     match c {
         Class::Hello => t,
@@ -359,11 +355,14 @@ fn next_for(s: Session, e: Event, m: Match) -> Session
     let guest = s.guest;
     let host = s.host;
     let held = s.held;
+    let d = s.device;
+    let rows = d.rows;
+    let t = s.requests;
     let from_guest = is_guest(from);
     let next_guest = hello_after(c, from_guest, word, guest);
     let next_host = hello_after(c, !from_guest, word, host);
-    let device = device_after(s, e, m);
-    let requests = requests_after(s, e, m);
+    let device = device_after(d, is_shared(s, 3), e, m);
+    let requests = requests_after(t, rows, e, m);
     Session {
         guest: next_guest,
         host: next_host,

@@ -1,31 +1,28 @@
--- `report::main` is safe and ends: the buffers have the lengths that `run` asks for.
+-- `report::main` is safe and ends: the buffers are as `report_input` asks for.
 -- Assumes nothing.
 use Prim.Native.Nat.{ℕ}
+use mathlib.Core.Path.{refl}
 use lib.ListN.{length-replicate}
+use Rattle.transcript.specs.Input.{start}
 use borrow.Author.Needs.{needs}
 use Rattle.report.proofs.main.Statement.{statement}
 use Rattle.report.proofs.main.Tie as tie
 
-slice-aggregate-run : tie.Need-slice-aggregate-run
-slice-aggregate-run c = search needs
+slice-aggregate-report-input : tie.Need-slice-aggregate-report-input
+slice-aggregate-report-input c = search needs
 
-slice-aggregate-run-2 : tie.Need-slice-aggregate-run-2
-slice-aggregate-run-2 c = search needs
+slice-aggregate-report-input-2 : tie.Need-slice-aggregate-report-input-2
+slice-aggregate-report-input-2 c = search needs
 
-slice-aggregate-run-3 : tie.Need-slice-aggregate-run-3
-slice-aggregate-run-3 c = search needs
+slice-aggregate-report-input-3 : tie.Need-slice-aggregate-report-input-3
+slice-aggregate-report-input-3 c = search needs
 
-slice-aggregate-run-4 : tie.Need-slice-aggregate-run-4
-slice-aggregate-run-4 c = search needs
+slice-aggregate-report-input-4 : tie.Need-slice-aggregate-report-input-4
+slice-aggregate-report-input-4 c = search needs
 
-run-requires : tie.Need-run-requires
-run-requires c κs = (length-replicate {A = ℕ} 65536 0, length-replicate {A = ℕ} 262144 0)
-
-slice-aggregate-print-totals : tie.Need-slice-aggregate-print-totals
-slice-aggregate-print-totals c = search needs
-
-print-totals-requires : tie.Need-print-totals-requires
-print-totals-requires c κs = search needs
+report-input-requires : tie.Need-report-input-requires
+unfolding start
+report-input-requires c κs = (refl, refl, length-replicate {A = ℕ} 65536 0, length-replicate {A = ℕ} 262144 0)
 
 returns : tie.Need-returns
 returns c = search needs
@@ -34,11 +31,9 @@ pub main-spec : {M : Type 1} → statement M
 main-spec =
     tie.close
     (tie.spec
-    slice-aggregate-run
-    slice-aggregate-run-2
-    slice-aggregate-run-3
-    slice-aggregate-run-4
-    run-requires
-    slice-aggregate-print-totals
-    print-totals-requires
+    slice-aggregate-report-input
+    slice-aggregate-report-input-2
+    slice-aggregate-report-input-3
+    slice-aggregate-report-input-4
+    report-input-requires
     returns)

@@ -1,4 +1,4 @@
--- `report::print_totals` is safe: the totals have room behind the output that is not written yet.
+-- `report::print_totals` meets its contract: the totals have room behind the output that is not written yet.
 -- Assumes nothing.
 use Prim.Native.Nat.{_+_, _≤_}
 use mathlib.Core.Path.{sym}
@@ -40,7 +40,7 @@ same-length : tie.Need-same-length
 same-length c = search needs
 
 returns : tie.Need-returns
-returns c = search needs
+returns c = c .before .before .before .before .form-totals .ensures .output
 
 pub print-totals-spec : {M : Type 1} → statement M
 print-totals-spec =

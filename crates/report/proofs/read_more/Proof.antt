@@ -4,7 +4,7 @@ use Prim.Native.Nat.{_+_, _-_, _≤_}
 use mathlib.Core.Path.{refl}
 use native.Mathlib.Omega.{arith}
 use lib.ListN.{length}
-use Rattle.report.proofs.Laws.{shift-keeps}
+use Rattle.report.proofs.Laws.{shift-keeps, none-came}
 use borrow.Author.Needs.{needs}
 use Rattle.report.proofs.read_more.Statement.{statement}
 use Rattle.report.proofs.read_more.Tie as tie
@@ -49,6 +49,8 @@ returns c =
       fits = search needs;
       state = refl;
       kept = shift-keeps (a .args .input .now) (c .before .before .before .read .last .1 .0) (p .start) (p .end - p .start) (c .moved .result) h (s .shift .ensures);
+      more = omega arith;
+      last = none-came (p .end - p .start) (c .moved .result);
     }
 
 pub read-more-spec : {M : Type 1} → statement M

@@ -3,7 +3,6 @@
 use mathlib.Core.Path.{refl, ap, _∙_}
 use borrow.Author.Needs.{needs}
 use Rattle.device.specs.declared.Introduction.the-variants.{One}
-use Rattle.device.specs.Device.{startDevice}
 use Rattle.session.specs.Step.{introduced}
 use Rattle.session.proofs.Laws.{device-by}
 use Rattle.session.proofs.device_after.Statement.{statement}
@@ -38,9 +37,6 @@ introduce-requires-2 c κs = search needs
 
 enum-told-5 : tie.Need-enum-told-5
 enum-told-5 c = search needs
-
-is-shared-requires : tie.Need-is-shared-requires
-is-shared-requires c κs = search needs
 
 start-device-requires : tie.Need-start-device-requires
 start-device-requires c κs = search needs
@@ -100,46 +96,46 @@ enum-told-14 : tie.Need-enum-told-14
 enum-told-14 c = search needs
 
 returns : tie.Need-returns
-returns c = device-by _ _ _ _ (c .enum-told .given .1) _ refl
+returns c = device-by _ _ _ (c .enum-told .given .1) _ _ _ refl
 
 returns-2 : tie.Need-returns-2
-returns-2 c = device-by _ _ _ _ (c .before .enum-told2 .given .1) _ (c .connect .ensures)
+returns-2 c = device-by _ _ _ (c .before .enum-told2 .given .1) _ _ _ (c .connect .ensures)
 
 returns-3 : tie.Need-returns-3
-returns-3 c = device-by _ _ _ _ (c .before .enum-told3 .given .1) _ (c .introduce .ensures)
+returns-3 c = device-by _ _ _ (c .before .enum-told3 .given .1) _ _ _ (c .introduce .ensures)
 
 returns-4 : tie.Need-returns-4
-returns-4 c = device-by _ _ _ _ (c .before .before .before .enum-told4 .given .1) _ (rw (← c .before .before .replace .ensures) (c .introduce2 .ensures ∙ ap (introduced One) (c .before .with-rows .ensures)))
+returns-4 c = device-by _ _ _ (c .before .before .before .enum-told4 .given .1) _ _ _ (rw (← c .before .before .replace .ensures) (c .introduce2 .ensures ∙ ap (introduced One) (c .before .with-rows .ensures)))
 
 returns-5 : tie.Need-returns-5
-returns-5 c = device-by _ _ _ _ (c .before .before .enum-told5 .given .1) _ (c .start-device .ensures ∙ ap startDevice (c .before .is-shared .ensures))
+returns-5 c = device-by _ _ _ (c .before .enum-told5 .given .1) _ _ _ (c .start-device .ensures)
 
 returns-6 : tie.Need-returns-6
-returns-6 c = device-by _ _ _ _ (c .before .before .enum-told6 .given .1) _ (rw (← c .before .close .ensures) (c .with-rows2 .ensures))
+returns-6 c = device-by _ _ _ (c .before .before .enum-told6 .given .1) _ _ _ (rw (← c .before .close .ensures) (c .with-rows2 .ensures))
 
 returns-7 : tie.Need-returns-7
-returns-7 c = device-by _ _ _ _ (c .before .enum-told7 .given .1) _ (c .acknowledge .ensures)
+returns-7 c = device-by _ _ _ (c .before .enum-told7 .given .1) _ _ _ (c .acknowledge .ensures)
 
 returns-8 : tie.Need-returns-8
-returns-8 c = device-by _ _ _ _ (c .enum-told8 .given .1) _ refl
+returns-8 c = device-by _ _ _ (c .enum-told8 .given .1) _ _ _ refl
 
 returns-9 : tie.Need-returns-9
-returns-9 c = device-by _ _ _ _ (c .enum-told9 .given .1) _ refl
+returns-9 c = device-by _ _ _ (c .enum-told9 .given .1) _ _ _ refl
 
 returns-10 : tie.Need-returns-10
-returns-10 c = device-by _ _ _ _ (c .before .before .enum-told10 .given .1) _ (rw (← c .before .stream-by .ensures) (c .with-rows3 .ensures))
+returns-10 c = device-by _ _ _ (c .before .before .enum-told10 .given .1) _ _ _ (rw (← c .before .stream-by .ensures) (c .with-rows3 .ensures))
 
 returns-11 : tie.Need-returns-11
-returns-11 c = device-by _ _ _ _ (c .enum-told11 .given .1) _ refl
+returns-11 c = device-by _ _ _ (c .enum-told11 .given .1) _ _ _ refl
 
 returns-12 : tie.Need-returns-12
-returns-12 c = device-by _ _ _ _ (c .before .before .enum-told12 .given .1) _ (rw (← c .before .reply-rows .ensures) (c .with-rows4 .ensures))
+returns-12 c = device-by _ _ _ (c .before .before .enum-told12 .given .1) _ _ _ (rw (← c .before .reply-rows .ensures) (c .with-rows4 .ensures))
 
 returns-13 : tie.Need-returns-13
-returns-13 c = device-by _ _ _ _ (c .before .before .enum-told13 .given .1) _ (rw (← c .before .reply-rows2 .ensures) (c .with-rows5 .ensures))
+returns-13 c = device-by _ _ _ (c .before .before .enum-told13 .given .1) _ _ _ (rw (← c .before .reply-rows2 .ensures) (c .with-rows5 .ensures))
 
 returns-14 : tie.Need-returns-14
-returns-14 c = device-by _ _ _ _ (c .enum-told14 .given .1) _ refl
+returns-14 c = device-by _ _ _ (c .enum-told14 .given .1) _ _ _ refl
 
 pub device-after-spec : {M : Type 1} → statement M
 device-after-spec =
@@ -155,7 +151,6 @@ device-after-spec =
     with-rows-requires
     introduce-requires-2
     enum-told-5
-    is-shared-requires
     start-device-requires
     enum-told-6
     close-requires

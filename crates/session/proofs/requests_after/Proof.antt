@@ -67,46 +67,46 @@ enum-told-14 : tie.Need-enum-told-14
 enum-told-14 c = search needs
 
 returns : tie.Need-returns
-returns c = requests-by _ _ _ _ (c .enum-told .given .1) _ refl
+returns c = requests-by _ _ _ (c .enum-told .given .1) _ _ _ refl
 
 returns-2 : tie.Need-returns-2
-returns-2 c = requests-by _ _ _ _ (c .enum-told2 .given .1) _ refl
+returns-2 c = requests-by _ _ _ (c .enum-told2 .given .1) _ _ _ refl
 
 returns-3 : tie.Need-returns-3
-returns-3 c = requests-by _ _ _ _ (c .enum-told3 .given .1) _ refl
+returns-3 c = requests-by _ _ _ (c .enum-told3 .given .1) _ _ _ refl
 
 returns-4 : tie.Need-returns-4
-returns-4 c = requests-by _ _ _ _ (c .enum-told4 .given .1) _ refl
+returns-4 c = requests-by _ _ _ (c .enum-told4 .given .1) _ _ _ refl
 
 returns-5 : tie.Need-returns-5
-returns-5 c = requests-by _ _ _ _ (c .before .enum-told5 .given .1) _ (c .fresh .ensures)
+returns-5 c = requests-by _ _ _ (c .before .enum-told5 .given .1) _ _ _ (c .fresh .ensures)
 
 returns-6 : tie.Need-returns-6
-returns-6 c = requests-by _ _ _ _ (c .before .enum-told6 .given .1) _ (c .fresh2 .ensures)
+returns-6 c = requests-by _ _ _ (c .before .enum-told6 .given .1) _ _ _ (c .fresh2 .ensures)
 
 returns-7 : tie.Need-returns-7
-returns-7 c = requests-by _ _ _ _ (c .enum-told7 .given .1) _ refl
+returns-7 c = requests-by _ _ _ (c .enum-told7 .given .1) _ _ _ refl
 
 returns-8 : tie.Need-returns-8
-returns-8 c = requests-by _ _ _ _ (c .enum-told8 .given .1) _ refl
+returns-8 c = requests-by _ _ _ (c .enum-told8 .given .1) _ _ _ refl
 
 returns-9 : tie.Need-returns-9
-returns-9 c = requests-by _ _ _ _ (c .enum-told9 .given .1) _ refl
+returns-9 c = requests-by _ _ _ (c .enum-told9 .given .1) _ _ _ refl
 
 returns-10 : tie.Need-returns-10
-returns-10 c = requests-by _ _ _ _ (c .before .enum-told10 .given .1) _ (c .ask .ensures)
+returns-10 c = requests-by _ _ _ (c .before .enum-told10 .given .1) _ _ _ (c .ask .ensures)
 
 returns-11 : tie.Need-returns-11
-returns-11 c = requests-by _ _ _ _ (c .before .enum-told11 .given .1) _ (c .ask2 .ensures)
+returns-11 c = requests-by _ _ _ (c .before .enum-told11 .given .1) _ _ _ (c .ask2 .ensures)
 
 returns-12 : tie.Need-returns-12
-returns-12 c = requests-by _ _ _ _ (c .before .enum-told12 .given .1) _ (c .answer .ensures)
+returns-12 c = requests-by _ _ _ (c .before .enum-told12 .given .1) _ _ _ (c .answer .ensures)
 
 returns-13 : tie.Need-returns-13
-returns-13 c = requests-by _ _ _ _ (c .before .enum-told13 .given .1) _ (c .answer2 .ensures)
+returns-13 c = requests-by _ _ _ (c .before .enum-told13 .given .1) _ _ _ (c .answer2 .ensures)
 
 returns-14 : tie.Need-returns-14
-returns-14 c = requests-by _ _ _ _ (c .enum-told14 .given .1) _ refl
+returns-14 c = requests-by _ _ _ (c .enum-told14 .given .1) _ _ _ refl
 
 pub requests-after-spec : {M : Type 1} → statement M
 requests-after-spec =
