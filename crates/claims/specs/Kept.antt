@@ -117,10 +117,10 @@ module _ (P : Rows → Type 0) (start : P startRows) (close : (d : Rows) (c : Sc
   rows-hold s e h r = step s e (λ (x : Session). P (x .device .rows)) h (λ z. device-holds (s .device) (isShared s 3) e (matchOf (s .requests) e) h r (e .class))
 
 -- where rows 0 and 16 are control, they still are, if they are so in the rows that the packet announces
-pub kept-control : (s : Session) (e : Event) → controlRows (s .device .rows) ≡ true → length (s .device .rows .rows) ≡ 32 → controlRows (e .rows) ≡ true → controlRows (after s e .device .rows) ≡ true
-kept-control s e c n a =
+pub kept-control : (s : Session) (e : Event) → controlRows (s .device .rows) ≡ true → controlRows (e .rows) ≡ true → controlRows (after s e .device .rows) ≡ true
+kept-control s e c a =
     rows-hold (λ (d : Rows). controlRows d ≡ true) start-control (λ d x h. closed-control d x ∙ h) (λ d x k b h. stream-control d x k b ∙ h) s e c
-    (replaced-control (e .rows) (s .device .rows) n a)
+    (replaced-control (e .rows) (s .device .rows) a)
 
 -- ---- the rows that a packet announces
 

@@ -1,5 +1,6 @@
--- What a packet that passes does to the hellos, the device and its rows: each field and each row by itself, by kind numbers and in the words
--- of document 01, without the classes of `events` and the functions of `session`. `moves` shows that the judge's next session is this one.
+-- What a packet that passes does to the hellos, the device and its rows, and where it is neither a request nor a reply to the requests: each
+-- field and each row by itself, by kind numbers and in the words of document 01, without the classes of `events` and the functions of
+-- `session`. `moves` shows that the judge's next session is this one.
 -- For each kind of the table all of it computes but the rows, and each change of the rows has a law of what stands in a row afterwards.
 -- Assumes nothing.
 use Prim.Native.Nat.{ℕ, _<_}
@@ -28,7 +29,7 @@ use Rattle.kinds.specs.Codec.{layout}
 use Rattle.kinds.specs.Number.{isGuest, wireNumber}
 use Rattle.rows.specs.Rows.{column, element}
 use Rattle.scan.specs.Scan.{firstAt}
-use Rattle.scan.specs.Logic.{and-parts, failing}
+use Rattle.scan.specs.Logic.{and-parts, failing, or-none}
 use Rattle.scan.specs.Laws.{first-found, getD-set, each-at}
 use Rattle.device.specs.declared.RowState.{RowState}
 use Rattle.device.specs.declared.Rows.{Rows}
@@ -40,7 +41,7 @@ use Rattle.device.specs.Device.{control, iso, bulk, interrupt, invalid, closedR
 use Rattle.device.specs.Laws.{start-length, stream-length}
 use Rattle.requests.specs.declared.Place.{Place}
 use Rattle.requests.specs.declared.Requests.{Requests}
-use Rattle.requests.specs.Requests.{freePlace, lowest, placeAt}
+use Rattle.requests.specs.Requests.{freePlace, freshRequests, lowest, placeAt}
 use Rattle.events.specs.declared.Event.{Event}
 use Rattle.events.specs.Meaning.{meanings}
 use Rattle.events.specs.Event.{field, meaningOf, announcedRow, announcedIn, eventOf}
@@ -49,7 +50,7 @@ use Rattle.checks.specs.Checks.{matchIn, matchOf}
 use Rattle.session.specs.declared.Session.{Session}
 use Rattle.session.specs.Session.{linkOf, isShared}
 use Rattle.session.specs.Step.{keptHello, opens, scopeOf, nextFor, judged}
-use Rattle.claims.specs.Allowed.{among, answersKind, endpointOf, inwardOf}
+use Rattle.claims.specs.Allowed.{among, isRequest, isReply, answersKind, endpointOf, inwardOf}
 use Rattle.claims.specs.Agree.{answersBy, packetOf, _also_, Every, by-guest, by-host, by-both, found-kind, answeredAt}
 use Rattle.claims.specs.Steps.{passed, clean}
 use Rattle.claims.specs.Kept.{Sized}
@@ -129,6 +130,9 @@ pub record Moved (s : Session) (from : Side) (p : Content) (next : Session) : Ty
   pub types : (r : ℕ) → r < 32 → rowAt next r .kind ≡ cond (eqb (p .kind) 5) (tableType p r) (cond (eqb (p .kind) 2) (startType r) (rowAt s r .kind))
   pub interfaces : (r : ℕ) → r < 32 → rowAt next r .interface ≡ cond (eqb (p .kind) 5) (tableInterface p r) (cond (eqb (p .kind) 2) 0 (rowAt s r .interface))
   pub streams : (r : ℕ) → r < 32 → rowAt next r .streaming ≡ streamAfter s p r
+  -- 2 and 3 free "every place"; but for these, what is neither a request nor a reply leaves the requests (for those two see `request-keeps` and
+  -- `reply-consumes`)
+  pub requests : isRequest from (p .kind) ≡ false → isReply from (p .kind) (inwardOf p) ≡ false → next .requests ≡ cond (among (2 ∷ 3 ∷ []) (p .kind)) freshRequests (s .requests)
   -- no packet stops a session or holds bytes: that is the gate's
   pub stopped : next .stopped ≡ s .stopped
   pub held : next .held ≡ s .held
@@ -283,16 +287,22 @@ module _ (s : Session) (p : Content) where
 
 -- ---- for each kind of the table, from whoever may send it
 
--- the hellos and the device without its rows
+-- a request or a reply
+abbrev concerned : Side → Content → Bool
+concerned from p = isRequest from (p .kind) || isReply from (p .kind) (inwardOf p)
+
+-- the hellos, the device without its rows, and the requests where the packet is neither
 record Heads : Type 0 where
   guest : Hello
   host : Hello
   present : Bool
   introduction : Introduction
   owed : Bool
+  requests : Requests
 
-abbrev headsOf : Session → Heads
-headsOf s = record { guest = s .guest; host = s .host; present = s .device .present; introduction = s .device .introduction; owed = s .device .owed }
+abbrev headsOf : Bool → Session → Heads
+headsOf b s =
+    record { guest = s .guest; host = s .host; present = s .device .present; introduction = s .device .introduction; owed = s .device .owed; requests = cond b freshRequests (s .requests) }
 
 abbrev headsBy : Session → Side → Content → Heads
 headsBy s from p =
@@ -304,6 +314,7 @@ headsBy s from p =
           (cond (eqb (p .kind) 5) (cond (s .device .present) (s .device .introduction) One)
           (cond (eqb (p .kind) 4) (cond (s .device .present) (s .device .introduction) Two) (s .device .introduction)));
       owed = cond (eqb (p .kind) 2) (isShared s 3) (cond (eqb (p .kind) 24) false (s .device .owed));
+      requests = cond (concerned from p) freshRequests (cond (among (2 ∷ 3 ∷ []) (p .kind)) freshRequests (s .requests));
     }
 
 -- row r
@@ -322,7 +333,7 @@ nextOf s from p = nextFor s (eventOf from p) (matchOf (s .requests) (eventOf fro
 abbrev Moves : Side → ℕ → Type 0
 Moves from n =
     (s : Session) (id : ℕ) (vs : List Value) (rest : List ℕ) → Sized s
-    → (headsOf (nextOf s from (packetOf n id vs rest)) ≡ headsBy s from (packetOf n id vs rest))
+    → (headsOf (concerned from (packetOf n id vs rest)) (nextOf s from (packetOf n id vs rest)) ≡ headsBy s from (packetOf n id vs rest))
     × ((r : ℕ) → r < 32 → rowAt (nextOf s from (packetOf n id vs rest)) r ≡ rowBy s (packetOf n id vs rest) r)
 
 -- row r is one of the table
@@ -405,6 +416,9 @@ moves s from p w z n =
       types = λ r h i. m .1 r h i .kind;
       interfaces = λ r h i. m .1 r h i .interface;
       streams = λ r h i. m .1 r h i .streaming;
+      requests = λ a b.
+          let neither : concerned from p ≡ false = or-none (isRequest from (p .kind)) (isReply from (p .kind) (inwardOf p)) a b in
+          rw neither at (ap (λ (h : Heads). h .requests) (m .0));
       stopped = refl;
       held = refl;
     })

@@ -63,7 +63,7 @@ step-sound s x h w =
     let e = eventOf (x .from) (x .packet) in
     record {
       ids = kept-ids s e (h .ids);
-      control = kept-control s e (h .control) (h .sized .rows) (event-control (linkOf (x .from) s) (x .packet) w);
+      control = kept-control s e (h .control) (event-control (linkOf (x .from) s) (x .packet) w);
       sized = kept-lengths s e (h .sized);
     }
 
@@ -78,7 +78,7 @@ abbrev pub NoneAsks : ℕ → List Sent → Type 0
 NoneAsks n [] = Unit {0}
 NoneAsks n (x ∷ xs) = (isRequest (x .from) (x .packet .kind) ≡ true → x .packet .id ≡ n → ⊥) × NoneAsks n xs
 
-absent-step : (s : Session) (x : Sent) (n : ℕ) → OutOfWire s x → NoLive (s .requests) n → (isRequest (x .from) (x .packet .kind) ≡ true → x .packet .id ≡ n → ⊥) → NoLive (nextBy s x .requests) n
+pub absent-step : (s : Session) (x : Sent) (n : ℕ) → OutOfWire s x → NoLive (s .requests) n → (isRequest (x .from) (x .packet .kind) ≡ true → x .packet .id ≡ n → ⊥) → NoLive (nextBy s x .requests) n
 unfolding eventOf
 absent-step s x n w h f =
     let c = clean (linkOf (x .from) s) (x .packet) w in

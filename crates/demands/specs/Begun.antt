@@ -1,5 +1,6 @@
 -- 43 is "session not one the gate can leave": from a session at its start, with two holding buffers that 41 allows, no list of reader calls meets 41
--- or 43 (`never-refused`). What 43 tests holds at the start and is kept by every call, hellos among them.
+-- or 43 (`never-refused`). What 43 tests holds at the start and is kept by every call, hellos among them. So demand 3 starts from every session
+-- that the gate leads to (`begun-starts`).
 -- Assumes nothing.
 use Prim.Native.Nat.{ℕ, _+_, _≤_}
 use native.Mathlib.Omega.{arith}
@@ -43,6 +44,7 @@ use Rattle.gate.specs.Laws.{FitCount, Fit, fit-is, is-fit, completed-length, mo
 use Rattle.demands.specs.Kept.{opposite, kept-front, held-as, same-held, whole-number}
 use Rattle.demands.specs.Cuts.{of-side, Both, Call, answerTo, next, final, heldBy, ends, verdict-ends}
 use Rattle.demands.specs.Calls.{Unfinished, header-ends}
+use Rattle.demands.specs.Demand3.{State, Starts}
 
 abbrev pub helloBy : Side → Session → Hello
 helloBy Guest s = s .guest
@@ -297,7 +299,7 @@ module _ (x : Both) (d : Side) (piece : List ℕ) (h : Left x) where
       let e : Event = eventOf d p in
       ended-next (judged (heldAs d 0 s) e .session) n (kept-plain (heldAs d 0 s) e .held) (other-hello d p) (own-hello d p)
       (kept-ids (heldAs d 0 s) e (h .fit .ids))
-      (kept-control (heldAs d 0 s) e (h .fit .control) (h .sized .rows) (event-control (linkOf d s) p w))
+      (kept-control (heldAs d 0 s) e (h .fit .control) (event-control (linkOf d s) p w))
       (kept-lengths (heldAs d 0 s) e zero-sized)
 
   refused-next : (n kind : ℕ) → Next d s (refusedAs (heldAs d 0 s) kind) (completed (x .hold d) (heldOf d s) piece n)
@@ -338,7 +340,10 @@ left-kept x (c ∷ cs) h =
     left-kept (next x c) cs (left-next x (c .from) (answerTo x c .session) (answerTo x c .hold) h (call-next x (c .from) (c .piece) h))
 
 -- two buffers that 41 allows, with a session at its start
-pub begun-left : (hold : Side → List ℕ) → ((d : Side) → 32784 ≤ length (hold d)) → Left (record { session = freshSession; hold = hold })
+abbrev pub begun : (Side → List ℕ) → Both
+begun hold = record { session = freshSession; hold = hold }
+
+pub begun-left : (hold : Side → List ℕ) → ((d : Side) → 32784 ≤ length (hold d)) → Left (begun hold)
 unfolding freshSession
 begun-left hold room = record { room = room; fit = fit-is freshSession start-fit; sized = start-sized; unfinished = empty }
   where
@@ -379,5 +384,19 @@ answer-fit x c h =
     goes (whole n) e = ends-fit (verdictOf (heldAs (c .from) 0 (x .session)) (c .from) (take n (heldBy x (c .from) ++ c .piece)) .number) (verdict-ends (c .from) (x .session) (heldBy x (c .from) ++ c .piece) n e)
 
 pub never-refused : (hold : Side → List ℕ) → ((d : Side) → 32784 ≤ length (hold d)) → (cs : List Call) (c : Call)
-    → refusedState (answerTo (final (record { session = freshSession; hold = hold }) cs) c .number) ≡ false
-never-refused hold room cs c = answer-fit (final (record { session = freshSession; hold = hold }) cs) c (left-kept (record { session = freshSession; hold = hold }) cs (begun-left hold room))
+    → refusedState (answerTo (final (begun hold) cs) c .number) ≡ false
+never-refused hold room cs c = answer-fit (final (begun hold) cs) c (left-kept (begun hold) cs (begun-left hold room))
+
+-- ---- demand 3 starts from every such session
+
+-- the session and the buffers as a direction sees them
+abbrev pub stateOf : Side → Both → State
+stateOf d x = record { session = x .session; hold = x .hold d; other = x .hold (opposite d) }
+
+-- after any calls, where the session isn't stopped, both hellos have passed and the direction is "at a packet's start"
+pub begun-starts : (hold : Side → List ℕ) → ((d : Side) → 32784 ≤ length (hold d)) → (cs : List Call) (d : Side)
+    → final (begun hold) cs .session .stopped ≡ false → passed (final (begun hold) cs .session .guest) ≡ true → passed (final (begun hold) cs .session .host) ≡ true
+    → heldOf d (final (begun hold) cs .session) ≡ 0 → Starts d (stateOf d (final (begun hold) cs))
+begun-starts hold room cs d running guest host none =
+    let l : Left (final (begun hold) cs) = left-kept (begun hold) cs (begun-left hold room) in
+    record { running = running; guest = guest; host = host; fit = is-fit (final (begun hold) cs .session) (l .fit); nothing-held = none; room = l .room d }

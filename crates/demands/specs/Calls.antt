@@ -1,12 +1,12 @@
 -- Each call, in the words of document 01 and without the definitions' own tests: when a reader call is 41, 43, 3 or 2 (`bars`), when a writer call is
--- 43, 3 or 2 (`shuts`), what a reader call leaves of the buffer and where the packet lies (`leaves`), and when it stops the session (`stops`).
+-- 43, 3 or 2 (`shuts`), what a reader call takes and leaves of the buffer, and where the packet lies (`leaves`), and when it stops the session (`stops`).
 -- Assumes nothing.
 use Prim.Native.Nat.{ℕ, _+_, _-_, _≤_, _<_}
 use native.Mathlib.Omega.{arith}
 use mathlib.Core.Path.{_≡_, refl, sym, ap, subst, _∙_}
 use mathlib.Core.Bool.{Bool, true, false, cond, not, _&&_, _||_, true≢false, false≢true}
 use mathlib.Core.List.{List, [], _∷_, _++_}
-use mathlib.Core.Option.{Option, none, some}
+use mathlib.Core.Option.{Option, none}
 use lib.ListN.{length, take, drop, length-append, take-append-drop}
 use lib.Seq.{sets, sets-eq, drop-at, length-take-le}
 use lib.Dec.{eqb}
@@ -20,7 +20,7 @@ use Rattle.header.specs.declared.Link.{Link}
 use Rattle.header.specs.Link.{passed, sharedSet}
 use Rattle.header.specs.Header.{kindOf, lengthOf}
 use Rattle.kinds.specs.Table.{kinds, kindAt}
-use Rattle.kinds.specs.Content.{Value, Content, find}
+use Rattle.kinds.specs.Content.{Content, find}
 use Rattle.kinds.specs.Number.{surplus, wideId, sizeOk, bad as bad-place, isNone, streamsAlone, inOrder, kindNumber, byKind, wireNumber}
 use Rattle.kinds.specs.Codec.{contentAt, decode, readNumber}
 use Rattle.decoder.specs.Reading.{Handed}
@@ -31,14 +31,14 @@ use Rattle.claims.specs.Allowed.{among}
 use Rattle.claims.specs.Kept.{kept-plain}
 use Rattle.roundtrip.specs.Cut.{Cut, more, bad, whole}
 use Rattle.roundtrip.specs.Told.{IsBad, bad-is, whole-is, whole-fits}
-use Rattle.wire.specs.Wire.{usbredir, laws}
+use Rattle.wire.specs.Wire.{usbredir, laws, hello-fields}
 use Rattle.frame.specs.Frame.{headSize, cutAt, completed, placeFor, bytesAt}
 use Rattle.verdict.specs.Verdict.{stoppedNow, refusedAs, verdictOf}
 use Rattle.gate.specs.Offer.{heldOf, heldAs, heldBytes, isWaiting, heldWhole, barred, Outcome, byCut, offerOf, Whole}
 use Rattle.gate.specs.Write.{shut}
 use Rattle.gate.specs.Laws.{is-more, lies, Fit, fit-is, is-fit, Ready, ready, held-few, whole-here, header-here}
 use Rattle.demands.specs.Numbers.{header-numbers, wire-numbers, session-numbers, barred-numbers}
-use Rattle.demands.specs.Kept.{whole-number}
+use Rattle.demands.specs.Kept.{whole-number, verdict-numbers}
 use Rattle.demands.specs.Cuts.{ends, barred-silent, verdict-ends}
 
 -- ---- 2: "own hello passed, other's not"
@@ -144,6 +144,10 @@ shuts from s hello =
 abbrev pub nothing : ℕ → Bool
 nothing n = among (2 ∷ 3 ∷ 41 ∷ 43 ∷ []) n
 
+-- 10, 11 and 12
+abbrev pub ofHeader : ℕ → Bool
+ofHeader n = among (10 ∷ 11 ∷ 12 ∷ []) n
+
 pub record Leaves (from : Side) (s : Session) (hold piece : List ℕ) (o : Outcome) : Type 0 where
   -- "takes nothing"; "nothing taken or changed"
   pub unmoved : nothing (o .number) ≡ true → (o .session ≡ s) × (o .hold ≡ hold) × (o .taken ≡ 0)
@@ -157,6 +161,11 @@ pub record Leaves (from : Side) (s : Session) (hold piece : List ℕ) (o : Outco
   pub rest : ends (o .number) ≡ true → drop (o .size) (o .hold) ≡ drop (o .size) hold
   -- and what is taken are the bytes of the piece up to its end
   pub taken : ends (o .number) ≡ true → heldOf from s + o .taken ≡ o .size
+  -- 10, 11, 12 "take just the header"
+  pub header-size : ofHeader (o .number) ≡ true → o .size ≡ headSize (linkOf from s) (heldBytes from s hold ++ piece)
+  -- "A hello refused with 23, 24 or 13 .. is taken whole"; "All other refusals take the whole packet"; and so does 0
+  pub packet-size : ends (o .number) ≡ true → ofHeader (o .number) ≡ false
+      → o .size ≡ headSize (linkOf from s) (heldBytes from s hold ++ piece) + lengthOf (heldBytes from s hold ++ piece)
 
 -- an answer that ends a packet is none of the others
 ends-moved : (n : ℕ) → ends n ≡ true → nothing n ≡ true → ⊥
@@ -164,6 +173,16 @@ ends-moved n h m = cases (eqb n 1) (λ t. false≢true (rw t at h)) (λ t. false
 
 ends-other : (n : ℕ) → ends n ≡ true → n ≡ 1 → ⊥
 ends-other n h e = false≢true (rw e at h)
+
+-- a header that is refused has one of these numbers, a whole packet none
+header-number : (l : Link) (b : List ℕ) (n : ℕ) → cutAt l b ≡ bad n → ofHeader n ≡ true
+header-number l b n e =
+    let i : IsBad usbredir l b n = bad-is usbredir l b n e in
+    subst (λ (m : ℕ). (m ≡ 0 → ⊥) → ofHeader m ≡ true) (i .number)
+    (header-numbers (λ m. (m ≡ 0 → ⊥) → ofHeader m ≡ true) ((λ z. absurd (z refl)), ((λ z. refl), ((λ z. refl), ((λ z. refl), tt)))) l (kindOf b) (lengthOf b)) (i .refused)
+
+packet-number : (d : Side) (s : Session) (b : List ℕ) (n : ℕ) → cutAt (linkOf d s) b ≡ whole n → ofHeader (verdictOf (heldAs d 0 s) d (take n b) .number) ≡ false
+packet-number d s b n e = verdict-numbers (λ m. ofHeader m ≡ false) (refl, (refl, (refl, (refl, (refl, (refl, (refl, tt))))))) (refl, (refl, (refl, (refl, (refl, (refl, (refl, (refl, (refl, (refl, (refl, tt))))))))))) d (heldAs d 0 s) b n e
 
 pub header-ends : (l : Link) (b : List ℕ) (n : ℕ) → cutAt l b ≡ bad n → ends n ≡ true
 header-ends l b n e =
@@ -187,8 +206,10 @@ completed-rest hold piece held n w = go (eqb held 0)
 -- a packet, or a header that is refused, of so many bytes
 module _ (from : Side) (s : Session) (hold piece : List ℕ) (size : ℕ) (w : Whole hold piece (heldOf from s) size) where
   ended : (t : Session) (n : ℕ) (h : Option Handed) → ends n ≡ true
+      → (ofHeader n ≡ true → size ≡ headSize (linkOf from s) (heldBytes from s hold ++ piece))
+      → (ofHeader n ≡ false → size ≡ headSize (linkOf from s) (heldBytes from s hold ++ piece) + lengthOf (heldBytes from s hold ++ piece))
       → Leaves from s hold piece (record { session = t; number = n; taken = size - heldOf from s; place = placeFor (heldOf from s); size = size; handed = h; hold = completed hold (heldOf from s) piece size })
-  ended t n h e =
+  ended t n h e z y =
       record {
         unmoved = λ m. absurd (ends-moved n e m);
         used-up = λ o. absurd (ends-other n e o);
@@ -196,6 +217,8 @@ module _ (from : Side) (s : Session) (hold piece : List ℕ) (size : ℕ) (w : W
         readable = λ _. lies hold piece (heldOf from s) size w;
         rest = λ _. completed-rest hold piece (heldOf from s) size w;
         taken = λ _. omega (arith, w .begun);
+        header-size = z;
+        packet-size = λ _. y;
       }
 
 barred-other : (from : Side) (s : Session) (hold : List ℕ) → barred from s hold ≡ 1 → ⊥
@@ -217,6 +240,8 @@ leaves from s hold piece =
           readable = λ h. absurd (true≢false (sym h ∙ z));
           rest = λ h. refl;
           taken = λ h. absurd (true≢false (sym h ∙ z));
+          header-size = λ h. absurd (true≢false (sym h ∙ barred-numbers (λ m. ofHeader m ≡ false) (refl, (refl, (refl, (refl, (refl, tt))))) from s hold));
+          packet-size = λ h. absurd (true≢false (sym h ∙ z));
         }
 
     goes : Ready from s hold → (c : Cut) → cutAt (linkOf from s) (heldBytes from s hold ++ piece) ≡ c → Leaves from s hold piece (byCut from s hold piece c)
@@ -228,28 +253,25 @@ leaves from s hold piece =
           readable = λ h. absurd (false≢true h);
           rest = λ h. absurd (false≢true h);
           taken = λ h. absurd (false≢true h);
+          header-size = λ h. absurd (false≢true h);
+          packet-size = λ h. absurd (false≢true h);
         }
     goes r (bad n) e =
         ended from s hold piece (headSize (linkOf from s) (heldBytes from s hold ++ piece))
         (header-here (linkOf from s) hold piece (heldOf from s) (r .room) (held-few from s (r .fit)) (r .begun) n e)
         (stoppedNow (heldAs from 0 s)) n none (header-ends (linkOf from s) (heldBytes from s hold ++ piece) n e)
+        (λ _. refl) (λ h. absurd (true≢false (sym (header-number (linkOf from s) (heldBytes from s hold ++ piece) n e) ∙ h)))
     goes r (whole n) e =
         ended from s hold piece n (whole-here (linkOf from s) hold piece (heldOf from s) (r .room) (held-few from s (r .fit)) (r .begun) n e)
         (verdictOf (heldAs from 0 s) from (take n (heldBytes from s hold ++ piece)) .session) (verdictOf (heldAs from 0 s) from (take n (heldBytes from s hold ++ piece)) .number)
         (verdictOf (heldAs from 0 s) from (take n (heldBytes from s hold ++ piece)) .handed) (verdict-ends from s (heldBytes from s hold ++ piece) n e)
+        (λ h. absurd (true≢false (sym h ∙ packet-number from s (heldBytes from s hold ++ piece) n e))) (λ _. whole-is usbredir (linkOf from s) (heldBytes from s hold ++ piece) n e .size)
 
 -- ---- when the session stops
 
 -- "10, 11, 12 .. stop the session. A hello refused with 23, 24 or 13 (that order) is taken whole and stops it too."
 abbrev pub stopping : ℕ → ℕ → Bool
-stopping kind n = among (10 ∷ 11 ∷ 12 ∷ []) n || (eqb kind 0 && among (13 ∷ 23 ∷ 24 ∷ []) n)
-
--- no field of a hello depends on the shared set
-hello-fields : (caps : ℕ) (vs : List Value) → surplus caps (kindAt 0 .fields) vs ≡ false
-unfolding kinds
-hello-fields caps [] = refl
-hello-fields caps (none ∷ vs) = refl
-hello-fields caps (some xs ∷ vs) = refl
+stopping kind n = ofHeader n || (eqb kind 0 && among (13 ∷ 23 ∷ 24 ∷ []) n)
 
 -- 20 to 22 are not a hello's numbers
 hello-number : (P : ℕ → Type 0) → P 0 → P 13 → P 23 → P 24 → (l : Link) (p : Content) → p .kind ≡ 0 → P (wireNumber l p)
@@ -294,11 +316,7 @@ barred-still kind = let y = still (eqb kind 0) in barred-numbers (λ m. stopping
 -- a header that is refused
 header-stops : (l : Link) (b : List ℕ) (n kind : ℕ) → cutAt l b ≡ bad n → true ≡ stopping kind n
 header-stops l b n kind e =
-    let i : IsBad usbredir l b n = bad-is usbredir l b n e in
-    let h : among (10 ∷ 11 ∷ 12 ∷ []) n ≡ true =
-    subst (λ (m : ℕ). (m ≡ 0 → ⊥) → among (10 ∷ 11 ∷ 12 ∷ []) m ≡ true) (i .number)
-    (header-numbers (λ m. (m ≡ 0 → ⊥) → among (10 ∷ 11 ∷ 12 ∷ []) m ≡ true) ((λ z. absurd (z refl)), ((λ z. refl), ((λ z. refl), ((λ z. refl), tt)))) l (kindOf b) (lengthOf b)) (i .refused) in
-    sym (either (among (10 ∷ 11 ∷ 12 ∷ []) n) (eqb kind 0 && among (13 ∷ 23 ∷ 24 ∷ []) n) h)
+    sym (either (ofHeader n) (eqb kind 0 && among (13 ∷ 23 ∷ 24 ∷ []) n) (header-number l b n e))
   where
     either : (a b : Bool) → a ≡ true → (a || b) ≡ true
     either true b e = refl
@@ -324,8 +342,8 @@ module _ (d : Side) (s : Session) (b : List ℕ) (n : ℕ) (e : cutAt (linkOf d 
 
   other-goes-on : eqb (kindOf (take n b)) 0 ≡ false → stopping (kindOf (take n b)) (wireNumber l p) ≡ false
   other-goes-on k =
-      let h : among (10 ∷ 11 ∷ 12 ∷ []) (wireNumber l p) ≡ false = wire-numbers (λ m. among (10 ∷ 11 ∷ 12 ∷ []) m ≡ false) (refl, (refl, (refl, (refl, (refl, (refl, (refl, tt))))))) l p in
-      or-none (among (10 ∷ 11 ∷ 12 ∷ []) (wireNumber l p)) (eqb (kindOf (take n b)) 0 && among (13 ∷ 23 ∷ 24 ∷ []) (wireNumber l p)) h (rw k refl)
+      let h : ofHeader (wireNumber l p) ≡ false = wire-numbers (λ m. ofHeader m ≡ false) (refl, (refl, (refl, (refl, (refl, (refl, (refl, tt))))))) l p in
+      or-none (ofHeader (wireNumber l p)) (eqb (kindOf (take n b)) 0 && among (13 ∷ 23 ∷ 24 ∷ []) (wireNumber l p)) h (rw k refl)
 
   refused-stops : (wireNumber l p ≡ 0 → ⊥) → refusedAs (heldAs d 0 s) (kindOf (take n b)) .stopped ≡ stopping (kindOf (take n b)) (wireNumber l p)
   refused-stops z =

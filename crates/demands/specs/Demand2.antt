@@ -1,11 +1,13 @@
 -- Demand 2, over the whole gate: a reader call answers 0 exactly when a packet becomes whole with its piece that the wire checks and the
--- session allow; and a reply that passes consumes the one outstanding request that it answers.
+-- session allow (`demand-2`), and else which number it gives (`number-in-gate`); a reply that passes consumes the one outstanding request that
+-- it answers (`reply-in-gate`); what a packet that passes does to the session is what the judge says (`moves-in-gate`), and it is handed out
+-- (`handed-in-gate`).
 -- Assumes nothing.
 use Prim.Native.Nat.{ℕ, _≤_}
 use native.Mathlib.Omega.{arith}
 use mathlib.Core.Path.{_≡_, refl, sym, ap, _∙_}
 use mathlib.Core.Bool.{Bool, true, false, cond, true≢false}
-use mathlib.Core.List.{List, _++_}
+use mathlib.Core.List.{List, [], _∷_, _++_}
 use mathlib.Core.Logic.{_↔_, _⊎_}
 use lib.ListN.{length, take}
 use lib.Dec.{eqb, ltb}
@@ -15,15 +17,17 @@ use Rattle.header.specs.declared.Side.{Side}
 use Rattle.kinds.specs.Content.{Content}
 use Rattle.kinds.specs.Number.{wireNumber}
 use Rattle.header.specs.Header.{headerNumber}
-use Rattle.kinds.specs.Codec.{decode, encode, readNumber, bodyLength, packetNumber, writeNumber}
+use Rattle.kinds.specs.Codec.{decode, encode, orNext, readNumber, bodyLength, packetNumber, writeNumber}
 use Rattle.kinds.specs.RoundTrip.{both-zero}
 use Rattle.requests.specs.Requests.{idsDiffer}
 use Rattle.events.specs.Event.{eventOf}
+use Rattle.checks.specs.Checks.{firstOf}
 use Rattle.session.specs.declared.Session.{Session}
 use Rattle.session.specs.Session.{linkOf}
 use Rattle.session.specs.Step.{judged}
 use Rattle.claims.specs.Allowed.{isReply, inwardOf, Unsolicited, Allowed}
 use Rattle.claims.specs.Exchange.{Consumes, allowed-exactly, reply-consumes}
+use Rattle.claims.specs.Number.{checksBy, number-by}
 use Rattle.roundtrip.specs.Cut.{Cut, more, bad, whole}
 use Rattle.roundtrip.specs.Told.{bad-is}
 use Rattle.wire.specs.Wire.{usbredir}
@@ -33,7 +37,7 @@ use Rattle.gate.specs.Offer.{heldAs, heldBytes, barred, packetTaken, byCut, off
 use Rattle.gate.specs.Write.{shut, writeBy}
 use Rattle.gate.specs.Laws.{Ready, ready, fit-is}
 use Rattle.demands.specs.Kept.{whole-number}
-use Rattle.demands.specs.Demand3.{offer-barred, offer-open, verdict-open}
+use Rattle.demands.specs.Demand3.{contents, offer-barred, offer-open, judgedOf, verdict-open, handed-when}
 
 -- the packet that is whole with the piece: the first n of the held bytes and the piece behind them
 abbrev pub packetAt : Side → Session → List ℕ → List ℕ → ℕ → Content
@@ -75,10 +79,23 @@ module _ (from : Side) (s : Session) (hold piece : List ℕ) where
     ids : idsDiffer (s .requests .places) ≡ true
     ids = fit-is s (r .fit) .ids
 
+    -- one that came out of the wire checks is judged
+    pub judged-call : wireNumber (linkOf from s) p ≡ 0 → offerOf from s hold piece ≡ packetTaken from s hold piece (judgedOf (heldAs from 0 s) from (take n all)) n
+    judged-call w =
+        is-verdict ∙ ap (λ (v : Told). packetTaken from s hold piece v n) (verdict-open (heldAs from 0 s) from (take n all) (whole-number (linkOf from s) all n e ∙ w))
+
     judged-zero : wireNumber (linkOf from s) p ≡ 0 → offerOf from s hold piece .number ≡ judged (heldAs from 0 s) (eventOf from p) .number
-    judged-zero w =
-        ap (λ o. o .number) is-verdict
-        ∙ ap (λ (v : Told). v .number) (verdict-open (heldAs from 0 s) from (take n all) (whole-number (linkOf from s) all n e ∙ w))
+    judged-zero w = ap (λ o. o .number) (judged-call w)
+
+    -- "Where several hold, the lowest from 20 up is given. 10 to 24 are the wire checks, 25 to 34 the session checks.": the number of the wire
+    -- checks, and where they find nothing, that of the first session check that does
+    pub number-in-gate : offerOf from s hold piece .number ≡ orNext (wireNumber (linkOf from s) p) (firstOf (checksBy s from p))
+    unfolding verdictOf checksBy
+    number-in-gate =
+        let w : readNumber (linkOf from s) (take n all) ≡ wireNumber (linkOf from s) p = whole-number (linkOf from s) all n e in
+        cases (eqb (wireNumber (linkOf from s) p) 0)
+        (λ t. rw t (judged-zero (eqb-true _ _ t) ∙ number-by (heldAs from 0 s) from p (eqb-true _ _ t)))
+        (λ t. rw t (ap (λ o. o .number) is-verdict ∙ rw (w, t) refl))
 
     whole-passes : offerOf from s hold piece .number ≡ 0 → Passes from s hold piece
     unfolding verdictOf
@@ -119,16 +136,24 @@ module _ (from : Side) (s : Session) (hold piece : List ℕ) where
       ⊎ (Unsolicited (s .requests) (packetAt from s hold piece (h .size)) × (offerOf from s hold piece .session .requests ≡ s .requests))
   reply-in-gate h r =
       let q = packetAt from s hold piece (h .size) in
-      let v = is-verdict (h .ready) (h .size) (h .whole) ∙ ap (λ (t : Told). packetTaken from s hold piece t (h .size)) (verdict-open (heldAs from 0 s) from (take (h .size) all) (whole-number (linkOf from s) all (h .size) (h .whole) ∙ h .form)) in
-      rw v (reply-consumes (heldAs from 0 s) from q (h .form) r (ids (h .ready) (h .size) (h .whole)) (sym (judged-zero (h .ready) (h .size) (h .whole) (h .form)) ∙ passing h))
+      rw (judged-call (h .ready) (h .size) (h .whole) (h .form))
+      (reply-consumes (heldAs from 0 s) from q (h .form) r (ids (h .ready) (h .size) (h .whole)) (sym (judged-zero (h .ready) (h .size) (h .whole) (h .form)) ∙ passing h))
 
 -- what a packet that passes does to the session is what the judge says of it (`moves`, `request-keeps` and the others of `claims`); "After any
 -- answer but 1, 2, 3, 41 or 43 the held count is 0"
 pub moves-in-gate : (from : Side) (s : Session) (hold piece : List ℕ) (h : Passes from s hold piece)
     → offerOf from s hold piece .session ≡ judged (heldAs from 0 s) (eventOf from (packetAt from s hold piece (h .size))) .session
-moves-in-gate from s hold piece h =
-    ap (λ o. o .session) (is-verdict from s hold piece (h .ready) (h .size) (h .whole))
-    ∙ ap (λ (t : Told). t .session) (verdict-open (heldAs from 0 s) from (take (h .size) (heldBytes from s hold ++ piece)) (whole-number (linkOf from s) (heldBytes from s hold ++ piece) (h .size) (h .whole) ∙ h .form))
+moves-in-gate from s hold piece h = ap (λ o. o .session) (judged-call from s hold piece (h .ready) (h .size) (h .whole) (h .form))
+
+-- "at 0 what the reader hands out is that reading"
+pub handed-in-gate : (from : Side) (s : Session) (hold piece : List ℕ) (h : Passes from s hold piece) → contents (offerOf from s hold piece .handed) ≡ packetAt from s hold piece (h .size) ∷ []
+handed-in-gate from s hold piece h =
+    let q : Content = packetAt from s hold piece (h .size) in
+    let n : ℕ = judged (heldAs from 0 s) (eventOf from q) .number in
+    let z : n ≡ 0 = sym (judged-zero from s hold piece (h .ready) (h .size) (h .whole) (h .form)) ∙ passing from s hold piece h in
+    ap (λ o. contents (o .handed)) (judged-call from s hold piece (h .ready) (h .size) (h .whole) (h .form))
+    ∙ handed-when (eqb n 0) (linkOf from s) (take (h .size) (heldBytes from s hold ++ piece)) q (whole-number (linkOf from s) (heldBytes from s hold ++ piece) (h .size) (h .whole) ∙ h .form) refl
+    ∙ ap (λ (m : ℕ). cond (eqb m 0) (q ∷ []) []) z
 
 -- ---- the writer
 

@@ -4,12 +4,13 @@
 use Prim.Native.Nat.{ℕ, _+_, _-_, _≤_}
 use native.Mathlib.Omega.{arith}
 use mathlib.Core.Path.{_≡_, refl, sym, ap, subst, _∙_}
-use mathlib.Core.Bool.{Bool, true, false, cond, _&&_}
+use mathlib.Core.Bool.{Bool, true, false, cond, _&&_, true≢false}
 use mathlib.Core.List.{List, [], _∷_, _++_}
 use mathlib.Core.Option.{Option, none, some}
+use mathlib.Core.Logic.{inl, inr}
 use lib.ListN.{length, take, drop}
 use lib.Seq.{sets, length-sets, length-take-le, take-append-seam}
-use lib.Dec.{eqb, ltb}
+use lib.Dec.{eqb}
 use borrow.Author.Tests.{ne-eqb, le-ltb}
 use Rattle.header.specs.declared.Side.{Side}
 use Rattle.header.specs.declared.Side.the-variants.{Guest, Host}
@@ -23,18 +24,19 @@ use Rattle.events.specs.Event.{eventOf}
 use Rattle.session.specs.declared.Session.{Session}
 use Rattle.session.specs.Session.{linkOf, unfit}
 use Rattle.session.specs.Step.{judged}
-use Rattle.claims.specs.Kept.{Sized, kept-plain}
+use Rattle.claims.specs.Kept.{kept-plain}
 use Rattle.roundtrip.specs.Cut.{more, whole}
+use Rattle.roundtrip.specs.Wire.{OneOf}
 use Rattle.roundtrip.specs.Reader.{Answer, Reader, comesOut, Kept, Stopped, Part, Full, Open, ReaderLaws, Writer, WriterLaws, Demand3}
 use Rattle.roundtrip.specs.Demand3.{demand3}
-use Rattle.wire.specs.Wire.{usbredir, laws, unshared-refused}
+use Rattle.wire.specs.Wire.{usbredir, laws, unshared-number, unsuited-number}
 use Rattle.frame.specs.Frame.{cutAt, completed}
 use Rattle.verdict.specs.Verdict.{Told, verdictOf}
 use Rattle.gate.specs.Offer.{heldOf, heldAs, heldBytes, heldWhole, isWaiting, barred, Outcome, unmoved, kept, packetTaken, byCut, offerOf}
 use Rattle.encoder.specs.declared.Written.{Written}
 use Rattle.gate.specs.Write.{shut, writeBy, output, outputSize, WritesBy}
 use Rattle.gate.specs.Laws.{completed-length, more-few, Ready, not-barred, fit-is, is-fit, held-few}
-use Rattle.demands.specs.Numbers.{session-numbers}
+use Rattle.demands.specs.Numbers.{Each, session-numbers}
 use Rattle.demands.specs.Kept.{opposite, kept-front, held-as, same-held, Sound, Keeps, offer-keeps}
 
 -- ---- the reader of a direction
@@ -96,10 +98,6 @@ pub record Call (from : Side) (s : Session) : Type 0 where
   pub out : List ℕ
   pub fits : writeBy from s packet (length out) ≡ 0 → Accepted (linkOf from s) packet
 
--- every call of the code is such a call
-pub call-of : (from : Side) (s : Session) (p : Content) (out after : List ℕ) (r : Written) → WritesBy from s p out r after → Call from s
-call-of from s p out after r w = record { packet = p; out = out; fits = λ e. w .accepted (w .number ∙ e) }
-
 -- the bytes put out are the first of the output
 abbrev pub writer : Side → Session → Writer usbredir
 writer from s =
@@ -108,6 +106,22 @@ writer from s =
       packet = λ w. w .packet;
       number = λ w. writeBy from s (w .packet) (length (w .out));
       put = λ w. take (outputSize from s (w .packet) (length (w .out))) (output from s (w .packet) (w .out));
+    }
+
+-- every call of the code is such a call, with its packet, its number and the bytes that it put out
+pub record CallOf (from : Side) (s : Session) (p : Content) (r : Written) (after : List ℕ) : Type 0 where
+  pub call : Call from s
+  pub packet : writer from s .packet call ≡ p
+  pub number : writer from s .number call ≡ r .number
+  pub put : writer from s .put call ≡ take (r .size) after
+
+pub call-of : (from : Side) (s : Session) (p : Content) (out after : List ℕ) (r : Written) → WritesBy from s p out r after → CallOf from s p r after
+call-of from s p out after r w =
+    record {
+      call = record { packet = p; out = out; fits = λ e. w .accepted (w .number ∙ e) };
+      packet = refl;
+      number = sym (w .number);
+      put = rw (w .size, w .output) refl;
     }
 
 -- ---- one call
@@ -193,13 +207,20 @@ part-call from x piece o e =
       kept = after from x piece (o .sound) (ap (λ (p : Outcome). length (p .hold)) q ∙ length-sets (x .hold) (heldOf from s) piece);
     }
 
--- a whole packet that passes the wire checks
-pub verdict-open : (s : Session) (from : Side) (b : List ℕ) → readNumber (linkOf from s) b ≡ 0
-    → verdictOf s from b ≡ record { session = judged s (eventOf from (decode (linkOf from s) b)) .session; number = judged s (eventOf from (decode (linkOf from s) b)) .number; handed = cond (eqb (judged s (eventOf from (decode (linkOf from s) b)) .number) 0) (readOf (linkOf from s) b .handed) none }
+-- a whole packet that passes the wire checks is judged
+abbrev pub judgedOf : Session → Side → List ℕ → Told
+judgedOf s from b =
+    record {
+      session = judged s (eventOf from (decode (linkOf from s) b)) .session;
+      number = judged s (eventOf from (decode (linkOf from s) b)) .number;
+      handed = cond (eqb (judged s (eventOf from (decode (linkOf from s) b)) .number) 0) (readOf (linkOf from s) b .handed) none;
+    }
+
+pub verdict-open : (s : Session) (from : Side) (b : List ℕ) → readNumber (linkOf from s) b ≡ 0 → verdictOf s from b ≡ judgedOf s from b
 unfolding verdictOf
 verdict-open s from b z = rw z refl
 
-handed-when : (b : Bool) (l : Link) (bytes : List ℕ) (q : Content) → readNumber l bytes ≡ 0 → decode l bytes ≡ q → contents (cond b (readOf l bytes .handed) none) ≡ cond b (q ∷ []) []
+pub handed-when : (b : Bool) (l : Link) (bytes : List ℕ) (q : Content) → readNumber l bytes ≡ 0 → decode l bytes ≡ q → contents (cond b (readOf l bytes .handed) none) ≡ cond b (q ∷ []) []
 unfolding readOf
 handed-when true l bytes q z e = rw z (ap (λ (p : Content). p ∷ []) e)
 handed-when false l bytes q z e = refl
@@ -253,25 +274,13 @@ write-zero : (from : Side) (s : Session) (p : Content) (room : ℕ) → writeBy 
 unfolding writeBy
 write-zero from s p room e = both-zero (shut from s (eqb (p .kind) 0)) (writeNumber (linkOf from s) p room) e
 
-packet-zero : (l : Link) (p : Content) (room : ℕ) → writeNumber l p room ≡ 0 → packetNumber l p ≡ 0
-unfolding writeNumber
-packet-zero l p room e = both-zero (packetNumber l p) (cond (ltb room (length (encode l p))) 40 0) e .0
-
 puts : (from : Side) (s : Session) (p : Content) (out : List ℕ) → writeBy from s p (length out) ≡ 0 → take (outputSize from s p (length out)) (output from s p out) ≡ encode (linkOf from s) p
 unfolding output outputSize written writtenSize
 puts from s p out e =
     let z = write-zero from s p (length out) e in
     rw (z .0, z .1) (take-append-seam (encode (linkOf from s) p) (drop (length (encode (linkOf from s) p)) out))
 
-pub writer-laws : (from : Side) (s : Session) → WriterLaws usbredir (linkOf from s) (writer from s)
-writer-laws from s =
-    record {
-      checked = λ w e. w .fits e;
-      bytes = λ w e. puts from s (w .packet) (w .out) e;
-      unshared = λ w u e. unshared-refused (linkOf from s) (w .packet) u (packet-zero (linkOf from s) (w .packet) (length (w .out)) (write-zero from s (w .packet) (length (w .out)) e .1));
-    }
-
--- ---- the theorem
+-- ---- where it starts
 
 -- "Take any session that isn't stopped, both hellos passed with any capability sets that document 01 admits, .. and one direction at a
 -- packet's start"; "one that 43 doesn't refuse"; "The direction starts with nothing held and a buffer that 41 allows". Of the other
@@ -281,16 +290,55 @@ pub record Starts (from : Side) (x : State) : Type 0 where
   pub guest : passed (x .session .guest) ≡ true
   pub host : passed (x .session .host) ≡ true
   pub fit : unfit (x .session) ≡ false
-  pub sized : Sized (x .session)
   pub nothing-held : heldOf from (x .session) ≡ 0
   pub room : 32784 ≤ length (x .hold)
+
+module _ (from : Side) (x : State) (h : Starts from x) where
+  sound : Sound (x .session)
+  sound = record { guest = h .guest; host = h .host; fit = fit-is (x .session) (h .fit) }
+
+  -- no writer call from there is shut by 43, 3 or 2
+  going : (hello : Bool) → shut from (x .session) hello ≡ 0
+  unfolding shut
+  going hello = rw (h .fit, h .running, speaking from (x .session) sound) refl
+
+  -- and 11 cannot be
+  own-passed : passed (own (linkOf from (x .session))) ≡ false → ⊥
+  own-passed e = true≢false (sym (by from) ∙ e)
+    where
+      by : (d : Side) → passed (own (linkOf d (x .session))) ≡ true
+      by Guest = h .guest
+      by Host = h .host
+
+  -- a number of the wire checks other than 0 is the call's
+  refused-by : (ms : List ℕ) → Each (λ m. m ≡ 0 → ⊥) ms → (p : Content) (room : ℕ) → OneOf ms (packetNumber (linkOf from (x .session)) p) → OneOf ms (writeBy from (x .session) p room)
+  unfolding writeBy writeNumber
+  refused-by ms a p room o = rw (going (eqb (p .kind) 0), ne-eqb (packetNumber (linkOf from (x .session)) p) 0 (none-zero ms _ a o)) o
+    where
+      none-zero : (ms : List ℕ) (n : ℕ) → Each (λ m. m ≡ 0 → ⊥) ms → OneOf ms n → n ≡ 0 → ⊥
+      none-zero [] n a o z = o
+      none-zero (m ∷ ms) n a (inl e) z = a .0 (sym e ∙ z)
+      none-zero (m ∷ ms) n a (inr o) z = none-zero ms n (a .1) o z
+
+  pub writer-laws : WriterLaws usbredir (linkOf from (x .session)) (writer from (x .session))
+  writer-laws =
+      record {
+        checked = λ w e. w .fits e;
+        bytes = λ w e. puts from (x .session) (w .packet) (w .out) e;
+        unshared = λ w u.
+            let ms : List ℕ = usbredir .unsharedNumbers in
+            refused-by ms (omega arith) (w .packet) (length (w .out))
+            (unshared-number (OneOf ms) (linkOf from (x .session)) (w .packet) (inl refl) (λ e. absurd (own-passed e)) (inr (inl refl)) (inr (inr (inl refl))) u);
+        unsuited = λ w u.
+            let ms : List ℕ = usbredir .unsuitedNumbers in
+            refused-by ms (omega arith) (w .packet) (length (w .out))
+            (unsuited-number (OneOf ms) (linkOf from (x .session)) (w .packet) (inl refl) (λ e. absurd (own-passed e)) (inr (inl refl)) (inr (inr (inl refl))) (inr (inr (inr (inl refl)))) (inr (inr (inr (inr (inl refl))))) u);
+      }
+
+-- ---- the theorem
 
 pub demand-3 : (from : Side) (x : State) → Starts from x → Demand3 usbredir (reader from) (writer from (x .session)) x
 demand-3 from x s =
     demand3 usbredir laws (reader from) (reader-laws from) x
-    (record {
-      sound = record { session = record { guest = s .guest; host = s .host; fit = fit-is (x .session) (s .fit); sized = s .sized }; room = s .room };
-      running = s .running;
-      fresh = ap (λ (n : ℕ). take n (x .hold)) (s .nothing-held);
-    })
-    (writer from (x .session)) (writer-laws from (x .session))
+    (record { sound = record { session = sound from x s; room = s .room }; running = s .running; fresh = ap (λ (n : ℕ). take n (x .hold)) (s .nothing-held) })
+    (writer from (x .session)) (writer-laws from x s)

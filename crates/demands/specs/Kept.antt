@@ -1,5 +1,5 @@
--- What every reader call keeps, once both hellos have passed: the hellos, that 43 does not refuse the session, the lengths of its tables,
--- and what the other direction holds.
+-- What every reader call keeps, once both hellos have passed: the hellos, that 43 does not refuse the session, and what
+-- the other direction holds.
 -- Assumes nothing.
 use Prim.Native.Nat.{ℕ, _+_, _-_, _≤_}
 use native.Mathlib.Omega.{arith}
@@ -25,7 +25,7 @@ use Rattle.events.specs.Event.{eventOf}
 use Rattle.session.specs.declared.Session.{Session}
 use Rattle.session.specs.Session.{linkOf}
 use Rattle.session.specs.Step.{judged}
-use Rattle.claims.specs.Kept.{Sized, kept-ids, kept-control, event-control, kept-lengths, kept-hellos, kept-plain}
+use Rattle.claims.specs.Kept.{kept-ids, kept-control, event-control, kept-hellos, kept-plain}
 use Rattle.roundtrip.specs.Cut.{Cut, more, bad, whole}
 use Rattle.roundtrip.specs.Told.{IsWhole, whole-is}
 use Rattle.wire.specs.Wire.{usbredir, laws}
@@ -106,8 +106,6 @@ pub record Sound (s : Session) : Type 0 where
   pub host : passed (s .host) ≡ true
   -- "one that 43 doesn't refuse"
   pub fit : Fit s
-  -- 96 places and 32 rows, as the code's arrays have
-  pub sized : Sized s
 
 -- what a call for direction d leaves of a session s
 pub record Keeps (d : Side) (s t : Session) : Type 0 where
@@ -134,7 +132,6 @@ counted Guest s n h few =
             guest = h .guest;
             host = h .host;
             fit = record { guest = count-fits (s .guest) (s .host) n (h .host) few; host = h .fit .host; ids = h .fit .ids; control = h .fit .control };
-            sized = record { places = h .sized .places; rows = h .sized .rows };
           };
       guest = refl;
       host = refl;
@@ -147,7 +144,6 @@ counted Host s n h few =
             guest = h .guest;
             host = h .host;
             fit = record { guest = h .fit .guest; host = count-fits (s .host) (s .guest) n (h .guest) few; ids = h .fit .ids; control = h .fit .control };
-            sized = record { places = h .sized .places; rows = h .sized .rows };
           };
       guest = refl;
       host = refl;
@@ -155,8 +151,8 @@ counted Host s n h few =
     }
 
 halted : (d : Side) (s : Session) → Sound s → Keeps d s (stoppedNow s)
-halted Guest s h = record { sound = record { guest = h .guest; host = h .host; fit = record { guest = h .fit .guest; host = h .fit .host; ids = h .fit .ids; control = h .fit .control }; sized = record { places = h .sized .places; rows = h .sized .rows } }; guest = refl; host = refl; held = refl }
-halted Host s h = record { sound = record { guest = h .guest; host = h .host; fit = record { guest = h .fit .guest; host = h .fit .host; ids = h .fit .ids; control = h .fit .control }; sized = record { places = h .sized .places; rows = h .sized .rows } }; guest = refl; host = refl; held = refl }
+halted Guest s h = record { sound = record { guest = h .guest; host = h .host; fit = record { guest = h .fit .guest; host = h .fit .host; ids = h .fit .ids; control = h .fit .control } }; guest = refl; host = refl; held = refl }
+halted Host s h = record { sound = record { guest = h .guest; host = h .host; fit = record { guest = h .fit .guest; host = h .fit .host; ids = h .fit .ids; control = h .fit .control } }; guest = refl; host = refl; held = refl }
 
 pub same-held : (d : Side) (s t : Session) → t .held ≡ s .held → heldOf d t ≡ heldOf d s
 same-held Guest s t e = λ i. e i .guest
@@ -181,9 +177,8 @@ passing d s p h w =
                   guest = count-fits _ _ _ (ap passed o ∙ h .host) (subst (λ (n : ℕ). n ≤ 32783) (λ i. back i .guest) (h .fit .guest .few));
                   host = count-fits _ _ _ (ap passed g ∙ h .guest) (subst (λ (n : ℕ). n ≤ 32783) (λ i. back i .host) (h .fit .host .few));
                   ids = kept-ids s e (h .fit .ids);
-                  control = kept-control s e (h .fit .control) (h .sized .rows) (event-control (linkOf d s) p w);
+                  control = kept-control s e (h .fit .control) (event-control (linkOf d s) p w);
                 };
-            sized = kept-lengths s e (h .sized);
           };
       guest = g;
       host = o;

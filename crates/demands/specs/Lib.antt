@@ -8,4 +8,6 @@ pub mod Cuts
 pub mod Sent
 pub mod Calls
 pub mod Begun
+pub mod Late
+pub mod Hellos
 pub mod Marked

@@ -5,12 +5,14 @@ use mathlib.Core.Path.{_≡_, refl, ap, _∙_}
 use mathlib.Core.Bool.{Bool, true, false, cond, _&&_}
 use native.Mathlib.Nat.{zero-add}
 use native.Mathlib.Omega.{arith}
-use lib.ListN.{length, getD, set, length-set}
+use native.Mathlib.Decide.{decLt}
+use lib.ListN.{length, getD, set, length-set, List·getD-eq-default}
 use lib.Dec.{eqb}
 use Rattle.endpoint.specs.declared.Endpoint.{Endpoint}
 use Rattle.endpoint.specs.declared.RowOf.{RowOf}
 use Rattle.endpoint.specs.declared.RowOf.the-variants.{At, Malformed}
 use Rattle.endpoint.specs.Endpoint.{rowOf}
+use Rattle.scan.specs.Logic.{and-parts, and-whole}
 use Rattle.scan.specs.Laws.{each-length, each-at, each-keeps, each-same, set-keeps}
 use Rattle.device.specs.declared.RowState.{RowState}
 use Rattle.device.specs.declared.Rows.{Rows}
@@ -82,8 +84,15 @@ pub replaced-kind : (new d : Rows) (k : ℕ) → k < length (d .rows) → getD (
 unfolding replaced
 replaced-kind new d k h = ap (λ (r : RowState). r .kind) (each-at _ (d .rows) 0 k (closedRow 0) h) ∙ ap (λ (i : ℕ). getD (new .rows) i (closedRow 0) .kind) (zero-add k)
 
-pub replaced-control : (new d : Rows) → length (d .rows) ≡ 32 → controlRows new ≡ true → controlRows (replaced new d) ≡ true
-replaced-control new d n c = same-control (replaced new d) new (replaced-kind new d 0 (omega arith)) (replaced-kind new d 16 (omega arith)) ∙ c
+-- a row past the end reads as control
+replaced-row : (new d : Rows) (k : ℕ) → eqb (getD (new .rows) k (closedRow 0) .kind) control ≡ true → eqb (getD (replaced new d .rows) k (closedRow 0) .kind) control ≡ true
+replaced-row new d k c = elim (decLt k (length (d .rows))) [
+  | yes h ↦ rw (replaced-kind new d k h) c
+  | no h ↦ ap (λ (r : RowState). eqb (r .kind) control) (List·getD-eq-default (replaced new d .rows) (closedRow 0) {n = k} (omega (arith, replaced-length new d)))
+]
+
+pub replaced-control : (new d : Rows) → controlRows new ≡ true → controlRows (replaced new d) ≡ true
+replaced-control new d c = let p = and-parts _ _ c in and-whole _ _ (replaced-row new d 0 (p .0)) (replaced-row new d 16 (p .1))
 
 -- ---- a scope of no row
 

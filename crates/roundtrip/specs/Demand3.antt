@@ -71,6 +71,7 @@ module _ (N : Wire) (W : WireLaws N) (R : Reader N) (Q : ReaderLaws N R) (x : R 
       record {
         read = reads;
         unshared = Z .unshared;
+        unsuited = Z .unsuited;
         apart =
             λ vs ws e. apart N W (R .ctx x) (accepted N Y vs) (accepted N Y ws) (wrote vs .0) (wrote ws .0)
             (sym (wrote vs .1) ∙ e ∙ wrote ws .1);

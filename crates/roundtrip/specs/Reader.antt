@@ -7,7 +7,7 @@ use mathlib.Core.Bool.{Bool, true, false, cond, _&&_, _||_}
 use lib.ListN.{length, take, drop}
 use lib.Dec.{leb, eqb}
 use Rattle.roundtrip.specs.Cut.{more, whole}
-use Rattle.roundtrip.specs.Wire.{Wire, cut}
+use Rattle.roundtrip.specs.Wire.{OneOf, Wire, cut}
 
 -- ---- the reader
 
@@ -166,7 +166,8 @@ pub record Writer (N : Wire) : Type 1 where
 pub record WriterLaws (N : Wire) (k : N .K) (Y : Writer N) : Type 0 where
   pub checked : (w : Y .W) → Y .number w ≡ 0 → N .Accepted k (Y .packet w)
   pub bytes : (w : Y .W) → Y .number w ≡ 0 → Y .put w ≡ N .encode k (Y .packet w)
-  pub unshared : (w : Y .W) → N .Unshared k (Y .packet w) → Y .number w ≡ 0 → ⊥
+  pub unshared : (w : Y .W) → N .Unshared k (Y .packet w) → OneOf (N .unsharedNumbers) (Y .number w)
+  pub unsuited : (w : Y .W) → N .Unsuited k (Y .packet w) → OneOf (N .unsuitedNumbers) (Y .number w)
 
 -- the packets of the calls that are accepted
 unfoldable pub accepted : (N : Wire) (Y : Writer N) → List (Y .W) → List (N .P)
@@ -200,7 +201,8 @@ pub record Demand3 (N : Wire) (R : Reader N) (Y : Writer N) (x : R .X) : Type 0 
   pub read : (ws : List (Y .W)) (cs : List (Call N R)) → Cuts N R (run N R x cs) (joined N Y ws)
       → Read N R (R .ctx x) (accepted N Y ws) (run N R x cs)
   -- "What the shared set doesn't allow, the writer refuses by number."
-  pub unshared : (w : Y .W) → N .Unshared (R .ctx x) (Y .packet w) → Y .number w ≡ 0 → ⊥
+  pub unshared : (w : Y .W) → N .Unshared (R .ctx x) (Y .packet w) → OneOf (N .unsharedNumbers) (Y .number w)
+  pub unsuited : (w : Y .W) → N .Unsuited (R .ctx x) (Y .packet w) → OneOf (N .unsuitedNumbers) (Y .number w)
   -- "Two different lists of accepted packets from one start and direction never give the same bytes"
   pub apart : (vs ws : List (Y .W)) → joined N Y vs ≡ joined N Y ws → accepted N Y vs ≡ accepted N Y ws
   -- "and one's bytes begin the other's only if its list does."

@@ -2,9 +2,15 @@
 -- Assumes nothing: these are definitions.
 use Prim.Native.Nat.{ℕ, _+_, _≤_}
 use mathlib.Core.Path.{_≡_}
-use mathlib.Core.List.{List, _++_}
+use mathlib.Core.List.{List, [], _∷_, _++_}
+use mathlib.Core.Logic.{_⊎_}
 use lib.ListN.{length}
 use Rattle.roundtrip.specs.Cut.{Cut, cutOf}
+
+-- n is a number of the list
+abbrev pub OneOf : List ℕ → ℕ → Type 0
+OneOf [] n = ⊥
+OneOf (m ∷ ms) n = (n ≡ m) ⊎ OneOf ms n
 
 pub record Wire : Type 1 where
   -- what the wire checks of a direction depend on: who sends, and both hellos
@@ -22,9 +28,14 @@ pub record Wire : Type 1 where
   pub encode : K → P → List ℕ
   -- a packet that the writer accepts
   pub Accepted : K → P → Type 0
-  -- a packet of which "each field not shared is shown as absent", and one that has "what the shared set doesn't allow"
+  -- a packet of which "each field not shared is shown as absent"
   pub Absent : K → P → Type 0
+  -- "what the shared set doesn't allow": a packet that has something which is not shared, and one with a field that does not suit what is
+  -- shared; and the numbers of each
   pub Unshared : K → P → Type 0
+  pub unsharedNumbers : List ℕ
+  pub Unsuited : K → P → Type 0
+  pub unsuitedNumbers : List ℕ
 
 -- what the bytes `all` from a packet's start are
 abbrev pub cut : (N : Wire) → N .K → List ℕ → Cut

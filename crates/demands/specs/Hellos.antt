@@ -1,0 +1,47 @@
+-- Demand 3 starts somewhere: a session at its start that both ends sent their hello to, by computation.
+-- Assumes nothing.
+use Prim.Native.Nat.{ℕ, _≤_}
+use native.Mathlib.Omega.{arith}
+use mathlib.Core.List.{List, [], _∷_, _++_}
+use mathlib.Core.Path.{refl}
+use lib.ListN.{length, replicate, length-replicate}
+use Rattle.number.specs.Little.{bytesOf}
+use Rattle.header.specs.declared.Side.{Side}
+use Rattle.header.specs.declared.Side.the-variants.{Guest, Host}
+use Rattle.header.specs.Link.{sharedSet, idWidth}
+use Rattle.header.specs.Header.{headerSize, headerNumber}
+use Rattle.kinds.specs.Table.{kinds}
+use Rattle.kinds.specs.Codec.{layout, contentAt, decode, readNumber}
+use Rattle.kinds.specs.Number.{bad, kindNumber, wireNumber}
+use Rattle.scan.specs.Scan.{firstAt, exists, anyAt, eachAt}
+use Rattle.device.specs.Device.{startRows, startDevice}
+use Rattle.requests.specs.Requests.{freshRequests, idsDiffer, clashes, lowest}
+use Rattle.events.specs.Meaning.{meanings}
+use Rattle.events.specs.Event.{meaningOf, eventOf}
+use Rattle.checks.specs.Checks.{matchOf, numberFor}
+use Rattle.session.specs.Session.{freshSession, unfit}
+use Rattle.session.specs.Step.{nextFor, judged}
+use Rattle.roundtrip.specs.Cut.{cutOf}
+use Rattle.verdict.specs.Verdict.{verdictOf}
+use Rattle.gate.specs.Offer.{barred, offerOf}
+use Rattle.demands.specs.Cuts.{Call, final}
+use Rattle.demands.specs.Demand3.{Starts}
+use Rattle.demands.specs.Begun.{begun, stateOf, begun-starts}
+
+-- buffers of the least size, and a hello with every bit that is ever asked for
+abbrev buffers : Side → List ℕ
+buffers d = replicate 32784 0
+
+abbrev hello : Side → Call
+hello from = record { from = from; piece = bytesOf 4 0 ++ (bytesOf 4 68 ++ (bytesOf 4 0 ++ (replicate 64 0 ++ bytesOf 4 255))) }
+
+abbrev hellos : List Call
+hellos = hello Guest ∷ hello Host ∷ []
+
+room : (d : Side) → 32784 ≤ length (buffers d)
+room d = omega (arith, length-replicate {A = ℕ} 32784 0)
+
+pub hellos-start : (d : Side) → Starts d (stateOf d (final (begun buffers) hellos))
+unfolding final offerOf barred unfit verdictOf cutOf readNumber decode contentAt headerSize headerNumber idWidth sharedSet wireNumber kindNumber bad layout kinds freshSession judged numberFor matchOf nextFor eventOf meaningOf meanings startRows startDevice freshRequests lowest idsDiffer clashes firstAt exists anyAt eachAt
+hellos-start Guest = begun-starts buffers room hellos Guest refl refl refl refl
+hellos-start Host = begun-starts buffers room hellos Host refl refl refl refl

@@ -1,0 +1,193 @@
+-- A late reply, over reader calls: once the request that waited under an id was answered or ended, a reply with that id is refused until a request
+-- takes the id again (`never-another-call`). Of the judge alone `claims/specs/Runs.antt` says it.
+-- Assumes nothing.
+use Prim.Native.Nat.{ℕ}
+use mathlib.Core.Path.{_≡_, refl, sym, ap, subst, _∙_}
+use mathlib.Core.Bool.{true, false, true≢false, false≢true}
+use mathlib.Core.List.{List, [], _∷_, _++_}
+use lib.ListN.{take}
+use lib.Dec.{eqb}
+use borrow.Author.Tests.{eqb-true, eqb-false}
+use borrow.Table.Steps.{cases}
+use Rattle.header.specs.declared.Side.{Side}
+use Rattle.header.specs.declared.Link.{Link}
+use Rattle.header.specs.Header.{kindOf, lengthOf}
+use Rattle.kinds.specs.Content.{Content}
+use Rattle.kinds.specs.Number.{wireNumber}
+use Rattle.kinds.specs.Codec.{decode}
+use Rattle.requests.specs.declared.Requests.{Requests}
+use Rattle.requests.specs.Requests.{placeAt}
+use Rattle.events.specs.Event.{eventOf}
+use Rattle.session.specs.declared.Session.{Session}
+use Rattle.session.specs.Session.{linkOf}
+use Rattle.session.specs.Step.{judged}
+use Rattle.claims.specs.Allowed.{isRequest, isReply, inwardOf, Unsolicited}
+use Rattle.claims.specs.Steps.{NoLive, ended-absent}
+use Rattle.claims.specs.Exchange.{LateReply, late}
+use Rattle.claims.specs.Runs.{absent-step}
+use Rattle.roundtrip.specs.Cut.{Cut, more, bad, whole}
+use Rattle.roundtrip.specs.Told.{IsBad, bad-is}
+use Rattle.roundtrip.specs.Reader.{comesOut}
+use Rattle.wire.specs.Wire.{usbredir}
+use Rattle.frame.specs.Frame.{cutAt}
+use Rattle.verdict.specs.Verdict.{verdictOf}
+use Rattle.gate.specs.Offer.{heldOf, heldAs, heldBytes, barred, Outcome, packetTaken, byCut, offerOf}
+use Rattle.gate.specs.Laws.{front-is, whole-here, Ready, ready, fit-is, held-few}
+use Rattle.demands.specs.Numbers.{header-numbers, wire-numbers, barred-numbers}
+use Rattle.demands.specs.Kept.{whole-number}
+use Rattle.demands.specs.Demand1.{demand-1}
+use Rattle.demands.specs.Demand2.{packetAt, Passes, demand-2, judged-call, moves-in-gate, handed-in-gate}
+use Rattle.demands.specs.Demand3.{contents, judgedOf}
+use Rattle.demands.specs.Cuts.{Both, Call, answerTo, next, final, heldBy}
+
+-- ---- a packet that came out of the wire checks
+
+-- "A packet comes out of the wire checks when a call answers 0 or a session check's number": then 41, 43, 3 and 2 do not hold, a packet is whole,
+-- and the wire checks find nothing
+pub record CameOut (from : Side) (s : Session) (hold piece : List ℕ) : Type 0 where
+  pub ready : Ready from s hold
+  pub size : ℕ
+  pub whole : cutAt (linkOf from s) (heldBytes from s hold ++ piece) ≡ whole size
+  pub form : wireNumber (linkOf from s) (packetAt from s hold piece size) ≡ 0
+
+pub came-out : (from : Side) (s : Session) (hold piece : List ℕ) → comesOut (offerOf from s hold piece .number) ≡ true → CameOut from s hold piece
+unfolding offerOf comesOut verdictOf
+came-out from s hold piece =
+    cases (eqb (barred from s hold) 0)
+    (λ t. rw t (goes (ready from s hold (eqb-true _ _ t)) (cutAt (linkOf from s) all) refl))
+    (λ t. rw t (λ c. absurd (true≢false (sym c ∙ shut (eqb-false _ _ t)))))
+  where
+    all : List ℕ
+    all = heldBytes from s hold ++ piece
+
+    shut : (barred from s hold ≡ 0 → ⊥) → comesOut (barred from s hold) ≡ false
+    shut = barred-numbers (λ m. (m ≡ 0 → ⊥) → comesOut m ≡ false) ((λ z. absurd (z refl)), ((λ z. refl), ((λ z. refl), ((λ z. refl), ((λ z. refl), tt))))) from s hold
+
+    goes : Ready from s hold → (c : Cut) → cutAt (linkOf from s) all ≡ c → comesOut (byCut from s hold piece c .number) ≡ true → CameOut from s hold piece
+    goes r more e c = absurd (false≢true c)
+    goes r (bad n) e c =
+        let i : IsBad usbredir (linkOf from s) all n = bad-is usbredir (linkOf from s) all n e in
+        let f : comesOut n ≡ false =
+        subst (λ (m : ℕ). (m ≡ 0 → ⊥) → comesOut m ≡ false) (i .number)
+        (header-numbers (λ m. (m ≡ 0 → ⊥) → comesOut m ≡ false) ((λ z. absurd (z refl)), ((λ z. refl), ((λ z. refl), ((λ z. refl), tt)))) (linkOf from s) (kindOf all) (lengthOf all)) (i .refused) in
+        absurd (true≢false (sym c ∙ f))
+    goes r (whole n) e c =
+        let p : Content = packetAt from s hold piece n in
+        cases (eqb (wireNumber (linkOf from s) p) 0)
+        (λ t. record { ready = r; size = n; whole = e; form = eqb-true _ _ t })
+        (λ t.
+        let f : (wireNumber (linkOf from s) p ≡ 0 → ⊥) → comesOut (wireNumber (linkOf from s) p) ≡ false =
+        wire-numbers (λ m. (m ≡ 0 → ⊥) → comesOut m ≡ false) ((λ z. absurd (z refl)), ((λ z. refl), ((λ z. refl), ((λ z. refl), ((λ z. refl), ((λ z. refl), ((λ z. refl), tt))))))) (linkOf from s) p in
+        let v : verdictOf (heldAs from 0 s) from (take n all) .number ≡ wireNumber (linkOf from s) p = rw (whole-number (linkOf from s) all n e, t) refl in
+        absurd (true≢false (sym c ∙ ap comesOut v ∙ f (eqb-false _ _ t))))
+
+-- ---- what a call does to the requests
+
+-- none of the packets that a call hands out is a request with this id
+abbrev pub NotAsked : ℕ → Side → List Content → Type 0
+NotAsked n from [] = Unit {0}
+NotAsked n from (p ∷ ps) = (isRequest from (p .kind) ≡ true → p .id ≡ n → ⊥) × NotAsked n from ps
+
+-- nor of those that a list of calls does
+abbrev pub NoneAsks : ℕ → Both → List Call → Type 0
+NoneAsks n x [] = Unit {0}
+NoneAsks n x (c ∷ cs) = NotAsked n (c .from) (contents (answerTo x c .handed)) × NoneAsks n (next x c) cs
+
+module _ (x : Both) (c : Call) where
+  abbrev s : Session
+  s = x .session
+
+  abbrev passing : Type 0
+  passing = Passes (c .from) s (x .hold (c .from)) (c .piece)
+
+  -- what holds of the requests as they were, and as the judge leaves them where a packet passes, holds after the call
+  by-call : (P : Requests → Type 0) → P (s .requests)
+      → ((h : passing) → P (judged (heldAs (c .from) 0 s) (eventOf (c .from) (packetAt (c .from) s (x .hold (c .from)) (c .piece) (h .size))) .session .requests))
+      → P (next x c .session .requests)
+  by-call P same judge =
+      cases (eqb (answerTo x c .number) 0)
+      (λ t.
+      let h : passing = demand-2 (c .from) s (x .hold (c .from)) (c .piece) .0 (eqb-true _ _ t) in
+      subst P (sym (ap (λ (u : Session). u .requests) (moves-in-gate (c .from) s (x .hold (c .from)) (c .piece) h))) (judge h))
+      (λ t. subst P (sym (demand-1 .read (c .from) s (x .hold (c .from)) (c .piece) .refusal (eqb-false _ _ t) .requests)) same)
+
+  -- an id under which no request waits stays so
+  pub absent-call : (n : ℕ) → NoLive (s .requests) n → NotAsked n (c .from) (contents (answerTo x c .handed)) → NoLive (next x c .session .requests) n
+  absent-call n a f =
+      by-call (λ t. NoLive t n) a
+      (λ h. absent-step (heldAs (c .from) 0 s) (record { from = c .from; packet = packetAt (c .from) s (x .hold (c .from)) (c .piece) (h .size) }) n (h .form) a
+      (subst (NotAsked n (c .from)) (handed-in-gate (c .from) s (x .hold (c .from)) (c .piece) h) f .0))
+
+  -- whatever ended the one request that waited under an id, none waits under it then
+  pub ended-call : (i : ℕ) → placeAt (s .requests) i .live ≡ true → placeAt (next x c .session .requests) i .live ≡ false
+      → NoLive (next x c .session .requests) (placeAt (s .requests) i .request .id)
+  ended-call i a =
+      by-call (λ t. placeAt t i .live ≡ false → NoLive t (placeAt (s .requests) i .request .id))
+      (λ b. absurd (true≢false (sym a ∙ b)))
+      (λ h b. ended-absent (heldAs (c .from) 0 s) (eventOf (c .from) (packetAt (c .from) s (x .hold (c .from)) (c .piece) (h .size))) i (fit-is s (h .ready .fit) .ids) a b)
+
+pub absent-calls : (x : Both) (cs : List Call) (n : ℕ) → NoLive (x .session .requests) n → NoneAsks n x cs → NoLive (final x cs .session .requests) n
+unfolding final
+absent-calls x [] n a f = a
+absent-calls x (c ∷ cs) n a f = absent-calls (next x c) cs n (absent-call x c n a (f .0)) (f .1)
+
+-- ---- a late reply
+
+-- it is refused, but for an unsolicited status, and no request is freed by it
+pub record LateCall (x : Both) (c : Call) (p : Content) : Type 0 where
+  pub without-device : x .session .device .present ≡ false → answerTo x c .number ≡ 25
+  pub refused : x .session .device .present ≡ true → (Unsolicited (x .session .requests) p → ⊥) → answerTo x c .number ≡ 33
+  pub kept : next x c .session .requests ≡ x .session .requests
+
+-- "It is the reading of the bytes taken for it": of those held, and of those taken of the piece
+abbrev pub readIn : Both → Call → Content
+readIn x c = decode (linkOf (c .from) (x .session)) (heldBy x (c .from) ++ take (answerTo x c .taken) (c .piece))
+
+module _ (x : Both) (c : Call) (o : CameOut (c .from) (x .session) (x .hold (c .from)) (c .piece)) where
+  abbrev from : Side
+  from = c .from
+
+  abbrev hold : List ℕ
+  hold = x .hold from
+
+  abbrev p : Content
+  p = packetAt from (x .session) hold (c .piece) (o .size)
+
+  called : answerTo x c ≡ packetTaken from (x .session) hold (c .piece) (judgedOf (heldAs from 0 (x .session)) from (take (o .size) (heldBy x from ++ c .piece))) (o .size)
+  called = judged-call from (x .session) hold (c .piece) (o .ready) (o .size) (o .whole) (o .form)
+
+  read-is : readIn x c ≡ p
+  read-is =
+      let l : Link = linkOf from (x .session) in
+      let held : ℕ = heldOf from (x .session) in
+      let w = whole-here l hold (c .piece) held (o .ready .room) (held-few from (x .session) (o .ready .fit)) (o .ready .begun) (o .size) (o .whole) in
+      ap (λ (u : Outcome). decode l (heldBy x from ++ take (u .taken) (c .piece))) called ∙ ap (decode l) (sym (front-is hold (c .piece) held (o .size) w))
+
+  late-call : isReply from (p .kind) (inwardOf p) ≡ true → NoLive (x .session .requests) (p .id) → LateCall x c p
+  late-call r a =
+      let l : LateReply (heldAs from 0 (x .session)) from p = late (heldAs from 0 (x .session)) from p (o .form) r a in
+      record {
+        without-device = λ d. ap (λ (u : Outcome). u .number) called ∙ l .without-device d;
+        refused = λ d n. ap (λ (u : Outcome). u .number) called ∙ l .refused d n;
+        kept = ap (λ (u : Outcome). u .session .requests) called ∙ l .kept;
+      }
+
+module _ (x : Both) (c : Call) (cs : List Call) where
+  abbrev later : Both
+  later = final (next x c) cs
+
+  -- a request waits at place i; the call c ends it, by its reply or otherwise; the calls cs follow, none of which hands out a request with its
+  -- id; then a packet that comes out of the wire checks and is a reply with its id is a late one
+  pub never-another-call : (i : ℕ) (d : Call)
+      → placeAt (x .session .requests) i .live ≡ true
+      → placeAt (next x c .session .requests) i .live ≡ false
+      → NoneAsks (placeAt (x .session .requests) i .request .id) (next x c) cs
+      → comesOut (answerTo later d .number) ≡ true
+      → isReply (d .from) (readIn later d .kind) (inwardOf (readIn later d)) ≡ true
+      → readIn later d .id ≡ placeAt (x .session .requests) i .request .id
+      → LateCall later d (readIn later d)
+  never-another-call i d v f n out r k =
+      let o = came-out (d .from) (later .session) (later .hold (d .from)) (d .piece) out in
+      let a : NoLive (later .session .requests) (readIn later d .id) =
+      subst (NoLive (later .session .requests)) (sym k) (absent-calls (next x c) cs (placeAt (x .session .requests) i .request .id) (ended-call x c i v f) n) in
+      subst (λ (p : Content). isReply (d .from) (p .kind) (inwardOf p) ≡ true → NoLive (later .session .requests) (p .id) → LateCall later d p) (sym (read-is later d o)) (late-call later d o) r a
