@@ -12,7 +12,10 @@ fn main() {
         None => Path::new(&manifest).join("../target/staticlib"),
     };
     println!("cargo:rerun-if-env-changed=DRIVE_DIR");
-    println!("cargo:rerun-if-changed={}", libraries.join("libdrive.a").display());
+    println!(
+        "cargo:rerun-if-changed={}",
+        libraries.join("libdrive.a").display()
+    );
     println!("cargo:rustc-link-search=native={}", libraries.display());
     println!("cargo:rustc-link-lib=static=drive");
     if env::var_os("CARGO_FEATURE_PARSER").is_some() {
@@ -24,8 +27,13 @@ fn link_parser() {
     let out = PathBuf::from(env::var_os("OUT_DIR").expect("set by cargo"));
     println!("cargo:rerun-if-changed=src/parser.c");
     let object = out.join("parser.o");
-    run(Command::new("cc").args(["-O3", "-Wall", "-Wextra", "-c", "src/parser.c", "-o"]).arg(&object));
-    run(Command::new("ar").arg("crs").arg(out.join("libhost.a")).arg(&object));
+    run(Command::new("cc")
+        .args(["-O3", "-Wall", "-Wextra", "-c", "src/parser.c", "-o"])
+        .arg(&object));
+    run(Command::new("ar")
+        .arg("crs")
+        .arg(out.join("libhost.a"))
+        .arg(&object));
     println!("cargo:rustc-link-search=native={}", out.display());
     println!("cargo:rustc-link-lib=static=host");
     println!("cargo:rustc-link-lib=usbredirparser");

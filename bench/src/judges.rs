@@ -31,7 +31,12 @@ pub struct Script {
 
 /// The calls that the traffic makes, found out by the plain reader.
 pub fn script_of(traffic: &Traffic) -> Script {
-    let mut script = Script { bytes: Vec::new(), calls: 0, packets: 0, refused: 0 };
+    let mut script = Script {
+        bytes: Vec::new(),
+        calls: 0,
+        packets: 0,
+        refused: 0,
+    };
     let mut session = Session::new();
     let mut holds = [vec![0; HOLD_SIZE], vec![0; HOLD_SIZE]];
     for piece in &traffic.pieces {
@@ -40,7 +45,12 @@ pub fn script_of(traffic: &Traffic) -> Script {
             script.bytes.push(piece.from as u8);
             script.bytes.extend((rest.len() as u32).to_le_bytes());
             script.bytes.extend(rest);
-            let answer = offer(&mut session, piece.from, &mut holds[piece.from as usize], rest);
+            let answer = offer(
+                &mut session,
+                piece.from,
+                &mut holds[piece.from as usize],
+                rest,
+            );
             script.calls += 1;
             script.packets += usize::from(answer.number == 0);
             script.refused += usize::from(answer.number >= 10);
@@ -81,8 +91,17 @@ pub fn by_plain(script: &Script, holds: &mut [Vec<u8>; 2], out: &mut [u8]) -> us
             break;
         }
         let size = u32::from_le_bytes([rest[1], rest[2], rest[3], rest[4]]) as usize;
-        let from = if rest[0] == 0 { Side::Guest } else { Side::Host };
-        let answer = offer(&mut session, from, &mut holds[from as usize], &rest[5..5 + size]);
+        let from = if rest[0] == 0 {
+            Side::Guest
+        } else {
+            Side::Host
+        };
+        let answer = offer(
+            &mut session,
+            from,
+            &mut holds[from as usize],
+            &rest[5..5 + size],
+        );
         let (start, end, id) = match &answer.handed {
             Some(handed) => (handed.data.start as u32, handed.data.end as u32, handed.id),
             None => (0, 0, 0),
@@ -141,7 +160,11 @@ pub mod parser {
         unsafe {
             let ends = [side_new(0, words[1]), side_new(1, words[0])];
             for piece in &traffic.pieces {
-                side_read(ends[piece.from as usize], piece.bytes.as_ptr(), piece.bytes.len());
+                side_read(
+                    ends[piece.from as usize],
+                    piece.bytes.as_ptr(),
+                    piece.bytes.len(),
+                );
             }
             ends.map(|end| side_free(end)).iter().sum()
         }

@@ -1,6 +1,6 @@
 //! The proved gate beside a plain one and libusbredirparser, in one run on one machine.
 //!
-//! `bench [DIVISOR]`: with a divisor there is so much less traffic. Prints a line for each traffic and judge: the best time of some
+//! `bench [DIVISOR [INDEX]]`: with a divisor there is so much less traffic, with an index only that one, counted from 0. Prints a line for each traffic and judge: the best time of some
 //! rounds, GB/s, packets/s, and the time as a multiple of the plain gate's. The last line is `N passed, M failed`: the gate and the
 //! plain gate told the same of every call and left the same buffers.
 
@@ -22,9 +22,13 @@ const ROUNDS: usize = 5;
 type Judge = fn(&Script, &mut [Vec<u8>; 2], &mut [u8]) -> usize;
 
 fn main() -> ExitCode {
-    let divisor: usize = std::env::args().nth(1).map_or(1, |text| text.parse().expect("bench [DIVISOR]"));
+    let mut numbers = std::env::args()
+        .skip(1)
+        .map(|text| text.parse().expect("bench [DIVISOR [INDEX]]"));
+    let divisor: usize = numbers.next().unwrap_or(1);
+    let only = numbers.next();
     let (mut passed, mut failed) = (0, 0);
-    for at in 0.. {
+    for at in only.unwrap_or(0)..only.map_or(usize::MAX, |index| index + 1) {
         let Some(traffic) = traffic(at, divisor) else {
             break;
         };

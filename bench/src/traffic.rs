@@ -72,7 +72,10 @@ fn cut(sent: Vec<(Side, Vec<u8>)>, size: usize) -> Vec<Piece> {
                     last.bytes.extend(head);
                     rest = tail;
                 }
-                _ => pieces.push(Piece { from, bytes: Vec::with_capacity(size.min(65_536)) }),
+                _ => pieces.push(Piece {
+                    from,
+                    bytes: Vec::with_capacity(size.min(65_536)),
+                }),
             }
         }
     }
@@ -86,15 +89,27 @@ pub fn bulk_transfers(packets: usize, size: usize) -> Traffic {
     for batch in 0..packets as u64 / BATCH {
         let ids = batch * BATCH..(batch + 1) * BATCH;
         for id in ids.clone() {
-            let request = if id % 2 == 0 { bulk(id, 2, 32_000, &data) } else { bulk(id, 0x82, 32_000, &[]) };
+            let request = if id % 2 == 0 {
+                bulk(id, 2, 32_000, &data)
+            } else {
+                bulk(id, 0x82, 32_000, &[])
+            };
             sent.push((Side::Guest, request));
         }
         for id in ids {
-            let reply = if id % 2 == 0 { bulk(id, 2, 32_000, &[]) } else { bulk(id, 0x82, 32_000, &data) };
+            let reply = if id % 2 == 0 {
+                bulk(id, 2, 32_000, &[])
+            } else {
+                bulk(id, 0x82, 32_000, &data)
+            };
             sent.push((Side::Host, reply));
         }
     }
-    Traffic { name: format!("bulk, cut every {size} bytes"), pieces: cut(sent, size), times: 1 }
+    Traffic {
+        name: format!("bulk, cut every {size} bytes"),
+        pieces: cut(sent, size),
+        times: 1,
+    }
 }
 
 /// So many interrupt packets with 8 data bytes from the host, a piece each.
@@ -102,9 +117,18 @@ pub fn interrupts(packets: usize) -> Traffic {
     let mut sent = introduction();
     sent.push((Side::Guest, packet(15, 0, &[0x81], &[])));
     sent.push((Side::Host, packet(17, 0, &[0, 0x81], &[])));
-    sent.extend((0..packets as u64).map(|id| (Side::Host, packet(103, id, &[0x81, 0, 8, 0], &[7; 8]))));
-    let pieces = sent.into_iter().map(|(from, bytes)| Piece { from, bytes }).collect();
-    Traffic { name: "interrupts, a piece each".into(), pieces, times: 1 }
+    sent.extend(
+        (0..packets as u64).map(|id| (Side::Host, packet(103, id, &[0x81, 0, 8, 0], &[7; 8]))),
+    );
+    let pieces = sent
+        .into_iter()
+        .map(|(from, bytes)| Piece { from, bytes })
+        .collect();
+    Traffic {
+        name: "interrupts, a piece each".into(),
+        pieces,
+        times: 1,
+    }
 }
 
 /// A capture in report lines, so many times.
@@ -113,11 +137,26 @@ pub fn capture(path: &Path, times: usize) -> Traffic {
     let pieces = text.lines().map(|line| {
         let (from, digits) = match line.strip_prefix("from=guest bytes=") {
             Some(digits) => (Side::Guest, digits),
-            None => (Side::Host, line.strip_prefix("from=host bytes=").expect("a report line")),
+            None => (
+                Side::Host,
+                line.strip_prefix("from=host bytes=")
+                    .expect("a report line"),
+            ),
         };
         let byte = |at: usize| u8::from_str_radix(&digits[at..at + 2], 16).expect("hex digits");
-        Piece { from, bytes: (0..digits.len()).step_by(2).map(byte).collect() }
+        Piece {
+            from,
+            bytes: (0..digits.len()).step_by(2).map(byte).collect(),
+        }
     });
-    let name = path.file_stem().expect("a name").to_string_lossy().into_owned();
-    Traffic { name, pieces: pieces.collect(), times }
+    let name = path
+        .file_stem()
+        .expect("a name")
+        .to_string_lossy()
+        .into_owned();
+    Traffic {
+        name,
+        pieces: pieces.collect(),
+        times,
+    }
 }

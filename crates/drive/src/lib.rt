@@ -115,9 +115,9 @@ pub extern "C" fn drive(script: &[u8], guest: &mut [u8], host: &mut [u8], out: &
             host,
             part(rest, 5, size),
         );
+        s = o.session;
         let answer = o.answer;
         put_record(out, k * 26, answer);
-        s = o.session;
         at = at + size;
         k += 1;
     }

@@ -9,7 +9,6 @@ use mathlib.Core.Option.{Option, none, some}
 use lib.ListN.{length, drop}
 use lib.Seq.{slice, take-length}
 use lib.Dec.{eqb}
-use borrow.Author.Tests.{eq-eqb, ne-eqb}
 use Rattle.header.specs.declared.Header.{Header}
 use Rattle.header.specs.declared.Link.{Link}
 use Rattle.header.specs.declared.Side.{Side}
@@ -40,13 +39,6 @@ handed-none false b e = refl
 
 same : {a b : Handed} → _≡_ {A = Option Handed} (some a) (some b) → a ≡ b
 same e = cc
-
--- a judged packet in the code
-pub hands : (j : Judged) (h : Header) (p : Packet) → j .number ≡ 0 → record { session = j .session; number = j .number; handed = Passed h p } ≡ judgedAs j h p
-hands j h p e = simp (eq-eqb (j .number) 0 e)
-
-pub hands-nothing : (j : Judged) (h : Header) (p : Packet) → (j .number ≡ 0 → ⊥) → record { session = j .session; number = j .number; handed = Nothing } ≡ judgedAs j h p
-hands-nothing j h p e = simp (ne-eqb (j .number) 0 e)
 
 -- a packet is handed out where its number is 0
 handed-when : (b : Bool) (l : Link) (bytes : List ℕ) (h : Header) (p : Packet) (o : Option Handed) → told l bytes (Read h p) .handed ≡ o

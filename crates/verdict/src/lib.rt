@@ -1,6 +1,9 @@
 // A whole packet judged: the wire checks, then the session checks; its number, what is handed out, and the session after it.
 ghost use mathlib.Core.Path.{_≡_};
+ghost use mathlib.Core.Bool.{cond};
+ghost use lib.Dec.{eqb};
 ghost use Rattle.session.specs.Session.{linkOf};
+ghost use Rattle.verdict.specs.declared.Handed.the-variants.{Nothing, Passed};
 ghost use Rattle.verdict.specs.Verdict.{stoppedNow, refusedAs, judgedAs, tells, verdictOf};
 use decoder::Reading;
 use decoder::read;
@@ -44,20 +47,23 @@ fn refuse(s: Session, kind: u32) -> Session
     if kind == 0 { stop(s) } else { s }
 }
 
+// The packet where its number is 0, else nothing.
+fn handed_at(number: u8, h: Header, p: Packet) -> Handed
+    ensures { λ r. ⌜ r ≡ cond (eqb number 0) (Passed h p) Nothing ⌝ }
+{
+    if number == 0 {
+        Handed::Passed(h, p)
+    } else {
+        Handed::Nothing
+    }
+}
+
 fn hand_out(j: Judged, h: Header, p: Packet) -> Verdict
     ensures { λ r. ⌜ r ≡ judgedAs j h p ⌝ }
 {
     let session = j.session;
     let number = j.number;
-    if number == 0 {
-        let handed = Handed::Passed(h, p);
-        return Verdict {
-            session,
-            number,
-            handed,
-        };
-    }
-    let handed = Handed::Nothing;
+    let handed = handed_at(number, h, p);
     Verdict {
         session,
         number,

@@ -69,7 +69,7 @@ record-ends : (c : tie.In-loop Inv-loop μ-loop) → c .before .loop .k * 26 + 2
 record-ends c = omega arith
 
 mul-put-record : tie.Need-mul-put-record Inv-loop μ-loop
-mul-put-record c = omega (arith, record-ends (c .before .before .before .before .before .before .before .before .before .before .before .before .before .before .before))
+mul-put-record c = omega (arith, record-ends (c .before .before .before .before .before .before .before .before .before .before .before .before .before .before .before .before))
 
 put-record-requires : tie.Need-put-record-requires Inv-loop μ-loop
 put-record-requires c κs = search needs
@@ -92,7 +92,7 @@ loop-again c =
     let o = c .before .before .before .before .before .before .before .before .before .before in
     let i = o .before .before .before .before .before .before in
     let a = i .before .before .before in
-    drive-goes-on (a .before .loop .inv) (a .loop-test .taken) (rest-is (a .before .before .before .before .before .before .before .args .script .now) (a .before .loop .at)) (i .before .get32 .ensures) (i .if1 .left) (o .before .before .before .before .before .get8 .ensures) (o .before .before .before .before .sender-of .ensures) (o .before .part .ensures) (o .offer-to .ensures) (o .offer-to .kept .1 .1 .0) (o .offer-to .kept .1 .1 .1 .0) (c .before .before .before .put-record .ensures)
+    drive-goes-on (a .before .loop .inv) (a .loop-test .taken) (rest-is (a .before .before .before .before .before .before .before .args .script .now) (a .before .loop .at)) (i .before .get32 .ensures) (i .if1 .left) (o .before .before .before .before .before .get8 .ensures) (o .before .before .before .before .sender-of .ensures) (o .before .part .ensures) (o .offer-to .ensures) (o .offer-to .kept .1 .1 .0) (o .offer-to .kept .1 .1 .1 .0) (c .before .before .put-record .ensures)
 
 same-length-4 : tie.Need-same-length-4 Inv-loop μ-loop
 same-length-4 c = search needs

@@ -1,18 +1,15 @@
--- `verdict::hand_out` meets its contract: number 0 hands the packet out.
+-- `verdict::hand_out` meets its contract: what is handed out is what `handed_at` ensures.
 -- Assumes nothing.
-use Rattle.verdict.proofs.Laws.{hands, hands-nothing}
+use mathlib.Core.Path.{refl}
+use borrow.Author.Needs.{needs}
 use Rattle.verdict.proofs.hand_out.Statement.{statement}
 use Rattle.verdict.proofs.hand_out.Tie as tie
 
-returns : tie.Need-returns
-returns c =
-    let s = c .before .before in
-    hands (s .args .j) (s .args .h) (s .args .p) (c .if1 .taken)
+handed-at-requires : tie.Need-handed-at-requires
+handed-at-requires c κs = search needs
 
-returns-2 : tie.Need-returns-2
-returns-2 c =
-    let s = c .before .before in
-    hands-nothing (s .args .j) (s .args .h) (s .args .p) (c .if1 .left)
+returns : tie.Need-returns
+returns c = rw (c .handed-at .ensures) refl
 
 pub hand-out-spec : {M : Type 1} → statement M
-hand-out-spec = tie.close (tie.spec returns returns-2)
+hand-out-spec = tie.close (tie.spec handed-at-requires returns)
