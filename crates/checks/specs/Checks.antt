@@ -11,7 +11,6 @@ use Rattle.device.specs.declared.Introduction.the-variants.{Nothing, One, Two}
 use Rattle.device.specs.declared.Device.{Device}
 use Rattle.device.specs.declared.Rows.{Rows}
 use Rattle.device.specs.Device.{stateAt, maskMistyped}
-use Rattle.requests.specs.declared.Request.{Request}
 use Rattle.requests.specs.declared.Requests.{Requests}
 use Rattle.requests.specs.declared.Query.the-variants.{Free, Id, Settling, Answered}
 use Rattle.requests.specs.Requests.{lowest, placeAt}

@@ -17,7 +17,6 @@ use Rattle.kinds.specs.Content.{Content}
 use Rattle.kinds.specs.Codec.{layout}
 use Rattle.kinds.specs.Number.{isGuest, dataLength}
 use Rattle.device.specs.declared.Introduction.the-variants.{Nothing, Two}
-use Rattle.device.specs.declared.Rows.{Rows}
 use Rattle.device.specs.Device.{control, iso, bulk, interrupt, closedRow, stateAt}
 use Rattle.requests.specs.declared.Request.{Request}
 use Rattle.requests.specs.declared.Requests.{Requests}

@@ -2,7 +2,7 @@
 -- otherwise. A packet that the wire checks refuse would show their number.
 -- Assumes nothing.
 use Prim.Native.Nat.{ℕ, zero, suc}
-use mathlib.Core.Bool.{Bool, true, false, cond}
+use mathlib.Core.Bool.{cond}
 use mathlib.Core.List.{List, [], _∷_, _++_}
 use mathlib.Core.Option.{none, some}
 use mathlib.Core.Path.{_≡_, refl}
@@ -12,7 +12,7 @@ use Rattle.header.specs.Link.{sharedSet, idWidth}
 use Rattle.header.specs.declared.Side.{Side}
 use Rattle.header.specs.declared.Side.the-variants.{Guest, Host}
 use Rattle.kinds.specs.Table.{kinds}
-use Rattle.kinds.specs.Content.{Value, one, Content}
+use Rattle.kinds.specs.Content.{Value, one}
 use Rattle.kinds.specs.Codec.{layout}
 use Rattle.kinds.specs.Number.{onward, bad, kindNumber, wireNumber}
 use Rattle.scan.specs.Scan.{firstAt, exists, anyAt, eachAt}

@@ -5,7 +5,7 @@
 -- and frees nothing (`late`).
 -- Assumes nothing.
 use Prim.Native.Nat.{ℕ, _≤_, _<_}
-use mathlib.Core.Bool.{Bool, true, false, cond, not, _&&_, false≢true, true≢false}
+use mathlib.Core.Bool.{Bool, true, false, cond, not, _&&_, false≢true}
 use mathlib.Core.List.{List, [], _∷_}
 use mathlib.Core.Logic.{_↔_, _⊎_, inl, inr}
 use mathlib.Core.Option.{Option, none, some}
@@ -19,9 +19,8 @@ use Rattle.header.specs.declared.Side.{Side}
 use Rattle.header.specs.declared.Side.the-variants.{Guest, Host}
 use Rattle.kinds.specs.Content.{Value, Content}
 use Rattle.kinds.specs.Number.{isGuest, wireNumber}
-use Rattle.device.specs.declared.Rows.{Rows}
 use Rattle.device.specs.declared.Scope.{Scope}
-use Rattle.device.specs.declared.Scope.the-variants.{Nowhere, Everywhere, OfInterface}
+use Rattle.device.specs.declared.Scope.the-variants.{OfInterface}
 use Rattle.device.specs.Device.{touched}
 use Rattle.requests.specs.declared.Request.{Request}
 use Rattle.requests.specs.declared.Query.{Query}
@@ -31,17 +30,16 @@ use Rattle.requests.specs.Laws.{differ-when}
 use Rattle.events.specs.declared.Event.{Event}
 use Rattle.events.specs.Meaning.{meanings, lookUp}
 use Rattle.events.specs.Event.{field, meaningOf, targetOf, eventOf}
-use Rattle.checks.specs.declared.Match.the-variants.{Unmatched, Matched}
+use Rattle.checks.specs.declared.Match.the-variants.{Matched}
 use Rattle.checks.specs.Checks.{traitsOf, isSome, mistypedBy, isOpen, matchIn, matchOf, isUnsolicited, noSuchRequest, numberFor, numberOf}
-use Rattle.checks.specs.declared.Match.{Match}
 use Rattle.session.specs.declared.Session.{Session}
 use Rattle.session.specs.Session.{linkOf}
 use Rattle.session.specs.Step.{scopeOf, nextFor, judged}
 use Rattle.scan.specs.Logic.{and-parts, and-whole, failing, or-none, false-not}
-use Rattle.claims.specs.Allowed.{among, oneOf, isRequest, isReply, answersKind, carriesTarget, inwardOf, replyTarget, countOf, requestOf, Answers, Unsolicited, Allowed}
-use Rattle.claims.specs.Agree.{Facts, factsOf, factsBy, agrees}
-use Rattle.claims.specs.Passes.{NoneHolds, holds-none, passes, answers-to, match-is, alone-to, reply-from, unsolicited-is}
-use Rattle.claims.specs.Steps.{after, number-is, request-takes, clean, from-host, reply-does, none-held, Freed, reply-frees, unmatched-keeps, NoLive, answered-once, Late, late-reply}
+use Rattle.claims.specs.Allowed.{among, oneOf, isRequest, isReply, answersKind, carriesTarget, inwardOf, countOf, requestOf, Answers, Unsolicited, Allowed}
+use Rattle.claims.specs.Agree.{factsOf, factsBy, agrees}
+use Rattle.claims.specs.Passes.{holds-none, passes, answers-to, match-is, alone-to, reply-from, unsolicited-is}
+use Rattle.claims.specs.Steps.{after, number-is, request-takes, clean, from-host, reply-does, none-held, Freed, reply-frees, unmatched-keeps, NoLive, answered-once, late-reply}
 
 -- ---- what is said of a request
 

@@ -28,7 +28,6 @@ use Rattle.kinds.specs.Content.{Value, Content}
 use Rattle.kinds.specs.Codec.{layout}
 use Rattle.kinds.specs.Number.{isGuest, wireNumber}
 use Rattle.rows.specs.Rows.{column, element}
-use Rattle.scan.specs.Scan.{firstAt}
 use Rattle.scan.specs.Logic.{and-parts, failing, or-none}
 use Rattle.scan.specs.Laws.{first-found, getD-set, each-at}
 use Rattle.device.specs.declared.RowState.{RowState}

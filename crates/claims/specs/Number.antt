@@ -2,7 +2,7 @@
 -- before 26. `number-by` shows that the judge gives this number.
 -- Assumes nothing.
 use Prim.Native.Nat.{ℕ}
-use mathlib.Core.Bool.{Bool, true, false, cond, not, _&&_, _||_}
+use mathlib.Core.Bool.{Bool, true, false, not, _&&_}
 use mathlib.Core.List.{List, [], _∷_}
 use mathlib.Core.Option.{Option, none, some}
 use mathlib.Core.Path.{_≡_, refl, sym, ap, _∙_}
@@ -13,22 +13,19 @@ use Rattle.kinds.specs.Content.{Content}
 use Rattle.kinds.specs.Number.{isGuest, wireNumber}
 use Rattle.device.specs.Device.{stateAt}
 use Rattle.requests.specs.declared.Requests.{Requests}
-use Rattle.requests.specs.declared.Request.{Request}
-use Rattle.requests.specs.declared.Query.{Query}
 use Rattle.requests.specs.declared.Query.the-variants.{Free, Id, Settling, Answered}
 use Rattle.requests.specs.declared.Place.{Place}
-use Rattle.requests.specs.Requests.{answers, meets, lowest, placeAt}
+use Rattle.requests.specs.Requests.{answers, lowest, placeAt}
 use Rattle.scan.specs.Scan.{firstAt}
 use Rattle.events.specs.declared.Event.{Event}
 use Rattle.events.specs.Event.{field, eventOf}
-use Rattle.checks.specs.declared.Match.{Match}
-use Rattle.checks.specs.declared.Match.the-variants.{Unmatched, Matched}
-use Rattle.checks.specs.Checks.{traitsOf, isSome, noDevice, ackOwed, outOfOrder, mistypedBy, wrongType, isOpen, streamClosed, isTransfer, settling, idInUse, isFull, matchIn, matchOf, isUnmatched, isUnsolicited, noSuchRequest, tooLong, Check, _when_, firstOf, numberFor, numberOf}
+use Rattle.checks.specs.declared.Match.the-variants.{Unmatched}
+use Rattle.checks.specs.Checks.{traitsOf, isSome, mistypedBy, streamClosed, settling, matchIn, matchOf, isUnmatched, isUnsolicited, noSuchRequest, tooLong, Check, _when_, firstOf, numberFor, numberOf}
 use Rattle.session.specs.declared.Session.{Session}
 use Rattle.session.specs.Session.{linkOf}
 use Rattle.session.specs.Step.{judged}
-use Rattle.claims.specs.Allowed.{among, isRequest, isReply, wants, onStream, endpointOf, inwardOf, countOf}
-use Rattle.claims.specs.Agree.{Facts, factsOf, factsBy, disordered, rowBy, typedBy, answersBy, answeredAt, agrees}
+use Rattle.claims.specs.Allowed.{among, isRequest, isReply, onStream, endpointOf, inwardOf, countOf}
+use Rattle.claims.specs.Agree.{factsOf, factsBy, disordered, typedBy, answeredAt, agrees}
 use Rattle.claims.specs.Passes.{order-is, types-are, stream-is, stream-at, match-is, answers-is, unsolicited-is}
 use Rattle.claims.specs.Steps.{number-is, clean}
 

@@ -3,49 +3,45 @@
 -- Assumes nothing.
 use Prim.Native.Nat.{ℕ, _≤_, _<_}
 use mathlib.Core.Bool.{Bool, true, false, cond, not, _&&_, _||_, false≢true, true≢false}
-use mathlib.Core.List.{List, [], _∷_}
+use mathlib.Core.List.{[], _∷_}
 use mathlib.Core.Logic.{_↔_, _⊎_, inl, inr}
-use mathlib.Core.Option.{Option, none, some, Option·some-injective, Option·none-ne-some}
+use mathlib.Core.Option.{Option, none, some, Option·none-ne-some}
 use mathlib.Core.Path.{_≡_, refl, sym, ap, subst, _∙_}
 use native.Mathlib.Nat.{zero-add}
-use native.Mathlib.Omega.{arith}
 use lib.ListN.{length, getD}
-use lib.Dec.{eqb, leb, ltb}
+use lib.Dec.{eqb, leb}
 use borrow.Author.Tests.{eqb-true, eq-eqb, ne-eqb, leb-true, le-leb, le-ltb, ltb-false, not-true, not-false}
 use borrow.Table.Steps.{cases}
 use Rattle.number.specs.Bits.{hasBit}
-use Rattle.endpoint.specs.declared.Endpoint.{Endpoint}
 use Rattle.header.specs.declared.Side.{Side}
 use Rattle.header.specs.declared.Side.the-variants.{Guest, Host}
 use Rattle.kinds.specs.Table.{Kind, kinds}
 use Rattle.kinds.specs.Content.{Content, find}
 use Rattle.kinds.specs.Number.{isGuest, sends}
-use Rattle.scan.specs.Scan.{firstAt, anyAt}
-use Rattle.scan.specs.Laws.{first-found, first-absent, first-some, any-absent, any-not}
-use Rattle.device.specs.declared.RowState.{RowState}
+use Rattle.scan.specs.Scan.{firstAt}
+use Rattle.scan.specs.Laws.{first-found, first-some, any-absent, any-not}
 use Rattle.device.specs.declared.Rows.{Rows}
 use Rattle.device.specs.declared.Introduction.{Introduction}
 use Rattle.device.specs.declared.Introduction.the-variants.{Nothing, One, Two}
 use Rattle.device.specs.declared.Device.{Device}
 use Rattle.device.specs.Device.{bulk, closedRow, stateAt, mistyped, maskMistyped}
-use Rattle.requests.specs.declared.Place.{Place}
 use Rattle.requests.specs.declared.Request.{Request}
 use Rattle.requests.specs.declared.Requests.{Requests}
 use Rattle.requests.specs.declared.Query.{Query}
 use Rattle.requests.specs.declared.Query.the-variants.{Free, Id, Settling, Answered}
-use Rattle.requests.specs.Requests.{freePlace, meets, answers, isSetting, lowest, placeAt, idsDiffer}
+use Rattle.requests.specs.Requests.{freePlace, meets, answers, lowest, placeAt, idsDiffer}
 use Rattle.requests.specs.Laws.{differ-when}
 use Rattle.events.specs.declared.Typed.{Typed}
-use Rattle.events.specs.declared.Typed.the-variants.{Untyped, OfEndpoint, OfMask}
+use Rattle.events.specs.declared.Typed.the-variants.{Untyped}
 use Rattle.events.specs.declared.Event.{Event}
 use Rattle.events.specs.Event.{field, eventOf}
 use Rattle.checks.specs.declared.Match.{Match}
 use Rattle.checks.specs.declared.Match.the-variants.{Unmatched, Matched}
-use Rattle.checks.specs.Checks.{traitsOf, isSome, noDevice, ackOwed, isBegun, isDone, outOfOrder, mistypedBy, wrongType, isTransfer, settling, isOpen, streamClosed, idInUse, isFull, matchIn, matchOf, isUnmatched, isUnsolicited, noSuchRequest, tooLong, numberFor, numberOf}
+use Rattle.checks.specs.Checks.{traitsOf, isSome, noDevice, ackOwed, isBegun, isDone, outOfOrder, mistypedBy, wrongType, isTransfer, settling, isOpen, streamClosed, idInUse, isFull, matchIn, matchOf, isUnsolicited, noSuchRequest, tooLong, numberFor, numberOf}
 use Rattle.session.specs.declared.Session.{Session}
 use Rattle.scan.specs.Logic.{and-parts, and-whole, fails, failing, implied, implying, or-parts, or-none, false-not, true-not}
 use Rattle.claims.specs.Allowed.{among, oneOf, isRequest, isReply, answersKind, carriesTarget, wants, onStream, endpointOf, inwardOf, replyTarget, countOf, Answers, Unsolicited, Allowed}
-use Rattle.claims.specs.Agree.{Facts, factsOf, factsBy, disordered, rowBy, typedBy, answersBy, agrees}
+use Rattle.claims.specs.Agree.{factsOf, factsBy, disordered, rowBy, typedBy, answersBy, agrees}
 
 -- ---- the number is 0 exactly where no check holds
 

@@ -2,11 +2,10 @@
 -- (`run-sound`), and once the request that waited under an id was answered or ended, a reply with that id is refused until a request
 -- takes the id again (`never-another`).
 -- Assumes nothing.
-use Prim.Native.Nat.{ℕ, _<_}
-use mathlib.Core.Bool.{Bool, true, false}
+use Prim.Native.Nat.{ℕ}
+use mathlib.Core.Bool.{true, false}
 use mathlib.Core.List.{List, [], _∷_}
-use mathlib.Core.Path.{_≡_, refl, sym, subst, _∙_}
-use lib.ListN.{length}
+use mathlib.Core.Path.{_≡_, sym, subst, _∙_}
 use Rattle.header.specs.declared.Side.{Side}
 use Rattle.kinds.specs.Content.{Content}
 use Rattle.kinds.specs.Number.{wireNumber}
@@ -14,14 +13,12 @@ use Rattle.device.specs.Device.{startDevice, controlRows}
 use Rattle.device.specs.Laws.{start-control}
 use Rattle.requests.specs.Requests.{placeAt, idsDiffer}
 use Rattle.requests.specs.Laws.{fresh-differ}
-use Rattle.events.specs.declared.Event.{Event}
 use Rattle.events.specs.Event.{eventOf}
-use Rattle.checks.specs.Checks.{traitsOf}
 use Rattle.session.specs.declared.Session.{Session}
 use Rattle.session.specs.Session.{freshSession, linkOf}
 use Rattle.session.specs.Step.{judged}
 use Rattle.claims.specs.Allowed.{isRequest, isReply, inwardOf}
-use Rattle.claims.specs.Agree.{Facts, agrees}
+use Rattle.claims.specs.Agree.{agrees}
 use Rattle.claims.specs.Steps.{clean, NoLive, absent-kept, ended-absent}
 use Rattle.claims.specs.Kept.{Sized, start-sized, kept-ids, kept-control, event-control, kept-lengths}
 use Rattle.claims.specs.Exchange.{LateReply, late}

@@ -13,7 +13,7 @@ use mathlib.Core.Path.{_≡_, refl, sym, ap, _∙_}
 use native.Mathlib.Omega.{arith}
 use lib.ListN.{length, getD, replicate}
 use lib.Dec.{eqb}
-use borrow.Author.Tests.{eqb-true, eqb-false, eq-eqb, ne-eqb, ltb-false, not-true, not-false}
+use borrow.Author.Tests.{eqb-true, eqb-false, eq-eqb, ltb-false, not-true, not-false}
 use borrow.Table.Steps.{cases}
 use Rattle.header.specs.declared.Side.{Side}
 use Rattle.header.specs.declared.Side.the-variants.{Guest, Host}
@@ -24,14 +24,13 @@ use Rattle.kinds.specs.Content.{Content, shared, find}
 use Rattle.kinds.specs.Number.{isGuest, sends, surplus, wideId, sizeOk, bad, isNone, streamsAlone, kindNumber, byKind, wireNumber}
 use Rattle.kinds.specs.RoundTrip.{none-holds as wire-none-holds}
 use Rattle.device.specs.declared.Device.{Device}
-use Rattle.device.specs.declared.Scope.the-variants.{Nowhere}
 use Rattle.requests.specs.declared.Place.{Place}
 use Rattle.requests.specs.declared.Request.{Request}
 use Rattle.requests.specs.declared.Requests.{Requests}
 use Rattle.requests.specs.declared.Query.{Query}
 use Rattle.requests.specs.declared.Query.the-variants.{Free, Id, Answered}
 use Rattle.requests.specs.Requests.{noRequest, freePlace, taken, freshRequests, meets, answers, lowest, placeAt, withPlace, ends, released, idsDiffer}
-use Rattle.requests.specs.Laws.{place-set, place-other, with-place-length, released-length, released-at, released-nowhere, differ-when, live-within, lowest-found, lowest-lower, lowest-none}
+use Rattle.requests.specs.Laws.{place-set, place-other, with-place-length, released-length, released-at, differ-when, live-within, lowest-found, lowest-lower, lowest-none}
 use Rattle.events.specs.declared.Class.{Class}
 use Rattle.events.specs.declared.Class.the-variants.{Hello, Connect, Interfaces, Endpoints, Disconnect, Reset, Ack, Cancel, Filter, StartRequest, PlainRequest, StreamStatus, PlainReply, StreamData}
 use Rattle.events.specs.declared.Event.{Event}
@@ -114,17 +113,6 @@ isAnswering asking = false
 isAnswering answering = true
 isAnswering ending = false
 
--- it leaves them
-abbrev pub isLeaving : Role → Bool
-isLeaving leaving = true
-isLeaving asking = false
-isLeaving answering = false
-isLeaving ending = false
-
--- hello, connect, interfaces, endpoints, ack, cancel, filter and data on a stream
-abbrev pub leavesRequests : Class → Bool
-leavesRequests c = isLeaving (roleOf c)
-
 -- the requests after a packet of this role
 abbrev pub requestsBy : Role → Session → Event → Match → Requests
 requestsBy leaving s e m = s .requests
@@ -180,15 +168,6 @@ reply-does c h = go (roleOf c) (does c)
     go answering d = d
     go ending d = absurd (true≢false (sym h ∙ d .1))
 
-leaver-does : (c : Class) → leavesRequests c ≡ true → Does c leaving
-leaver-does c h = go (roleOf c) h (does c)
-  where
-    go : (r : Role) → isLeaving r ≡ true → Does c r → Does c leaving
-    go leaving l d = d
-    go asking l d = absurd (false≢true l)
-    go answering l d = absurd (false≢true l)
-    go ending l d = absurd (false≢true l)
-
 module _ (s : Session) (e : Event) (r : Role) (d : Does (e .class) r) where
   -- the requests after a packet, by the role of its class
   pub next-requests : nextFor s e (matchOf (s .requests) e) .requests ≡ requestsBy r s e (matchOf (s .requests) e)
@@ -207,17 +186,6 @@ module _ (s : Session) (e : Event) (r : Role) (d : Does (e .class) r) where
 pub none-held : (s : Session) (e : Event) → judged s e .number ≡ 0 → NoneHolds (s .device) (s .requests) e (matchOf (s .requests) e)
 unfolding numberOf
 none-held s e z = none-holds (s .device) (s .requests) e (matchOf (s .requests) e) (sym (number-is s e) ∙ z)
-
--- ---- packets that are neither a request nor a reply
-
--- hello, connect, interfaces, endpoints, ack, cancel, filter and data on a stream leave the requests as they were
-pub others-keep : (s : Session) (e : Event) → leavesRequests (e .class) ≡ true → after s e .requests ≡ s .requests
-others-keep s e h = requests-kept s e leaving (leaver-does (e .class) h) refl
-
--- a disconnect or a reset that passes ends every request
-pub frees-all : (s : Session) (e : Event) → (e .class ≡ Disconnect) ⊎ (e .class ≡ Reset) → judged s e .number ≡ 0 → after s e .requests ≡ freshRequests
-frees-all s e (inl h) z = requests-passed s e ending (rw h (does Disconnect)) z
-frees-all s e (inr h) z = requests-passed s e ending (rw h (does Reset)) z
 
 -- ---- a request
 

@@ -1,24 +1,22 @@
 -- What the code knows of a packet's content: how long its body is, and, where the wire checks find nothing, which bytes it has.
 -- Assumes nothing.
 use mathlib.Core.Path.{_≡_, sym, ap, _∙_}
-use mathlib.Core.Bool.{Bool, true, false, cond, not, _||_}
-use mathlib.Core.List.{List, [], _∷_, _++_, append-assoc}
+use mathlib.Core.List.{List, _++_, append-assoc}
 use mathlib.Core.Option.{some}
-use Prim.Native.Nat.{ℕ, _+_, _-_, _*_, _≤_, _<_, min}
+use Prim.Native.Nat.{ℕ, _+_, _-_, _≤_, min}
 use native.Mathlib.Omega.{arith}
 use lib.ListN.{length, take, drop, length-append, length-drop}
-use borrow.Author.Tests.{leb-true, not-false}
+use borrow.Author.Tests.{leb-true}
 use Rattle.number.specs.Little.{bytesOf}
 use Rattle.number.specs.Laws.{length-bytes}
 use Rattle.header.specs.declared.Link.{Link}
 use Rattle.header.specs.Link.{sharedSet, idWidth}
 use Rattle.header.specs.Header.{headerBytes, headerNumber}
 use Rattle.header.specs.Laws.{short}
-use Rattle.kinds.specs.Table.{Field, Kind, kinds, kindAt}
+use Rattle.kinds.specs.Table.{Field, kinds, kindAt}
 use Rattle.kinds.specs.Content.{Content, shared, size, split, bytes, find, fieldsOf}
-use Rattle.kinds.specs.Number.{sends, surplus, wideId, complete, tailOk, sizeOk, bad, isNone, streamsAlone, kindNumber, wireNumber}
+use Rattle.kinds.specs.Number.{complete, wireNumber}
 use Rattle.kinds.specs.Codec.{layout, bodyOf, bodyLength, encode}
-use Rattle.kinds.specs.Laws.{and-left}
 use Rattle.kinds.specs.Reread.{all-there}
 use Rattle.packet.specs.declared.Packet.{Packet}
 use Rattle.packet.specs.Packet.{Shown, shownOf, inPart, contentOf}

@@ -1,8 +1,8 @@
 -- The bytes of the fields that a packet holds as numbers, as the code builds them.
 -- Assumes nothing: these are definitions.
-use Prim.Native.Nat.{ℕ, _/_, _%_, _≤_, _<_, _^_}
+use Prim.Native.Nat.{ℕ, _%_, _≤_, _<_, _^_}
 use mathlib.Core.Path.{_≡_}
-use mathlib.Core.List.{List, [], _∷_, _++_}
+use mathlib.Core.List.{List, [], _++_}
 use lib.ListN.{length, take}
 use Rattle.number.specs.Little.{bytesOf}
 use Rattle.kinds.specs.Content.{bytesOfValue, bytes}

@@ -1,8 +1,8 @@
 -- Document 01: "An endpoint byte holds the number in bits 0 to 3 and IN in bit 7; bits 4 to 6 are zero.
 -- Its row is the number, plus 16 for IN. A row and an endpoint byte are different things. Masks use bit r for row r."
 -- Assumes nothing: these are definitions.
-use Prim.Native.Nat.{ℕ, _+_, _*_, _/_, _%_}
-use mathlib.Core.Bool.{Bool, true, false, cond}
+use Prim.Native.Nat.{_+_, _*_, _/_, _%_}
+use mathlib.Core.Bool.{Bool, cond}
 use lib.Dec.{eqb, ltb}
 use Rattle.endpoint.specs.declared.Endpoint.{Endpoint}
 use Rattle.endpoint.specs.declared.Row.{Row}

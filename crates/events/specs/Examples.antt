@@ -13,7 +13,7 @@ use Rattle.kinds.specs.Number.{sends, isNone}
 use Rattle.device.specs.Device.{control, iso, bulk, interrupt, invalid}
 use Rattle.events.specs.declared.Class.{Class}
 use Rattle.events.specs.declared.Class.the-variants.{Hello, Connect, Interfaces, Endpoints, Disconnect, Reset, Ack, Cancel, Filter, StartRequest, PlainRequest, StreamStatus, PlainReply, StreamData}
-use Rattle.events.specs.Meaning.{Who, sender, guest, host, host-in, host-out, Line, meanings, admits, lookUp}
+use Rattle.events.specs.Meaning.{Who, sender, guest, host, host-in, Line, meanings, admits, lookUp}
 
 -- ---- lines by their class
 

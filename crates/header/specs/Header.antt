@@ -1,7 +1,7 @@
 -- The header: type u32, length u32, id; and the numbers that it alone decides.
 -- Assumes nothing: these are definitions.
 use Prim.Native.Nat.{ℕ, _+_}
-use mathlib.Core.Bool.{Bool, true, false, cond}
+use mathlib.Core.Bool.{cond}
 use mathlib.Core.List.{List, _++_}
 use lib.Dec.{eqb, ltb}
 use Rattle.number.specs.Little.{le, bytesOf}

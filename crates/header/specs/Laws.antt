@@ -1,18 +1,18 @@
 -- A header's bytes are read back, for both widths of an id in one proof over the width.
 -- Assumes nothing.
-use mathlib.Core.Path.{_≡_, refl, sym, ap, _∙_}
+use mathlib.Core.Path.{_≡_, refl, _∙_}
 use mathlib.Core.Bool.{Bool, true, false, cond, not, _&&_}
 use mathlib.Core.List.{List, [], _++_, append-assoc}
 use Prim.Native.Nat.{ℕ, _+_, _^_, _≤_, _<_}
 use native.Mathlib.Omega.{arith}
-use lib.ListN.{length, length-append}
+use lib.ListN.{length}
 use lib.Dec.{eqb, ltb}
 use borrow.Author.Tests.{ltb-false}
 use Rattle.number.specs.Bits.{hasBit}
 use Rattle.number.specs.Little.{le, bytesOf}
 use Rattle.number.specs.Laws.{le-bytes, le-after, length-bytes}
 use Rattle.header.specs.declared.Link.{Link}
-use Rattle.header.specs.Link.{passed, own, idWidth, sharedSet}
+use Rattle.header.specs.Link.{idWidth, sharedSet}
 use Rattle.header.specs.Header.{headerSize, headerBytes, headerNumber}
 
 -- an id has 4 or 8 bytes

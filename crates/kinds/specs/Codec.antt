@@ -1,16 +1,16 @@
 -- A packet's bytes and back; the number of bytes that were read and of a packet to be written.
 -- Assumes nothing: these are definitions.
 use Prim.Native.Nat.{ℕ, _+_, _^_, _<_}
-use mathlib.Core.Bool.{Bool, true, false, cond}
+use mathlib.Core.Bool.{cond}
 use mathlib.Core.List.{List, [], _∷_, _++_}
-use mathlib.Core.Option.{Option, none, some}
+use mathlib.Core.Option.{none, some}
 use mathlib.Core.Path.{_≡_}
 use lib.ListN.{length, drop}
 use lib.Dec.{eqb, ltb}
 use Rattle.header.specs.declared.Link.{Link}
 use Rattle.header.specs.Link.{sharedSet}
 use Rattle.header.specs.Header.{kindOf, lengthOf, idOf, headerSize, headerBytes, headerNumber}
-use Rattle.kinds.specs.Table.{Field, Kind, kinds}
+use Rattle.kinds.specs.Table.{Field, kinds}
 use Rattle.kinds.specs.Content.{Value, Content, shared, size, split, bytes, find, fieldsOf}
 use Rattle.kinds.specs.Number.{wireNumber}
 

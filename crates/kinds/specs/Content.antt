@@ -3,7 +3,7 @@
 -- Assumes nothing: these are definitions.
 use Prim.Native.Nat.{ℕ, zero, suc, _+_, _*_}
 use Prim.Native.String.{String}
-use mathlib.Core.Bool.{Bool, true, false, cond, _&&_}
+use mathlib.Core.Bool.{Bool, true, cond, _&&_}
 use mathlib.Core.List.{List, [], _∷_, _++_}
 use mathlib.Core.Option.{Option, none, some}
 use lib.ListN.{length, drop}
@@ -11,7 +11,7 @@ use lib.Dec.{eqb, leb}
 use lib.Text.{eqt}
 use Rattle.number.specs.Little.{le, bytesOf}
 use Rattle.number.specs.Bits.{hasBit}
-use Rattle.kinds.specs.Table.{Bits, always, bit, bits, Field, Kind, kinds}
+use Rattle.kinds.specs.Table.{Bits, always, bit, bits, Field, Kind}
 
 -- a field's numbers; none where the field is not there
 abbrev pub Value : Type 0

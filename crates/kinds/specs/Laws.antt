@@ -12,7 +12,7 @@ use lib.Seq.{drop-at, drop-drop, getD-drop, length-take-le}
 use lib.Dec.{eqb, leb, leb·zero, eqb·zero-suc}
 use borrow.Author.Tests.{eqb-true, le-leb, lt-leb, leb-true, leb-false, eq-eqb}
 use Rattle.header.specs.declared.Side.{Side}
-use Rattle.number.specs.Little.{le, bytesOf}
+use Rattle.number.specs.Little.{bytesOf}
 use Rattle.number.specs.Laws.{le-bytes, le-shift, le-lt, length-bytes}
 use Rattle.kinds.specs.Table.{Bits, Field}
 use Rattle.kinds.specs.Content.{Value, shared, sizeOf, size, numbers, whole, split, bytesOfAll, bytesOfValue, bytes}

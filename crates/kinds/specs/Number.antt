@@ -13,7 +13,7 @@ use Rattle.header.specs.declared.Side.{Side}
 use Rattle.header.specs.declared.Side.the-variants.{Guest, Host}
 use Rattle.header.specs.declared.Link.{Link}
 use Rattle.header.specs.Link.{sharedSet, idWidth}
-use Rattle.kinds.specs.Table.{Sender, G, H, B, Bits, Rule, any, holding-zero, speed, at-most-32, endpoint-type, status, endpoint, endpoint-in, endpoint-onward, endpoint-out-of-guest, as-endpoint, nonzero, zero-without, Field, Tail, nothing, words, string, payload, payload-onward, Id, id-any, id-zero, Kind, kinds}
+use Rattle.kinds.specs.Table.{Sender, G, H, B, Rule, any, holding-zero, speed, at-most-32, endpoint-type, status, endpoint, endpoint-in, endpoint-onward, endpoint-out-of-guest, as-endpoint, nonzero, zero-without, Field, Tail, nothing, words, string, payload, payload-onward, Id, id-any, id-zero, Kind, kinds}
 use Rattle.kinds.specs.Content.{Value, Content, shared, sizeOf, size, named, find}
 
 abbrev pub isGuest : Side → Bool

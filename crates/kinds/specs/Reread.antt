@@ -1,26 +1,26 @@
 -- The other way round: what the reader passes, the writer accepts and puts out as the same bytes.
 -- Assumes nothing.
 use mathlib.Core.Path.{_≡_, refl, sym, ap, _∙_}
-use mathlib.Core.Bool.{Bool, true, false, cond, not, _&&_, _||_}
-use mathlib.Core.List.{List, [], _∷_, _++_, append-assoc}
+use mathlib.Core.Bool.{Bool, true, false, not, _||_}
+use mathlib.Core.List.{List, _++_}
 use mathlib.Core.Option.{Option, none, some}
 use Prim.Native.Nat.{ℕ, _+_, _-_, _^_, _≤_, _<_}
 use native.Mathlib.Nat.{add-zero}
 use native.Mathlib.Omega.{arith}
-use lib.ListN.{length, getD, drop, length-drop}
+use lib.ListN.{length, drop, length-drop}
 use lib.Seq.{drop-drop}
-use lib.Dec.{eqb, leb, ltb}
-use borrow.Author.Tests.{eqb-true, ltb-false, leb-true, not-false}
+use lib.Dec.{eqb, ltb}
+use borrow.Author.Tests.{eqb-true, leb-true, not-false}
 use Rattle.number.specs.Little.{le, bytesOf}
 use Rattle.number.specs.Laws.{le-drop, le-lt}
 use Rattle.header.specs.declared.Link.{Link}
 use Rattle.header.specs.Link.{sharedSet, idWidth}
 use Rattle.header.specs.Header.{kindOf, lengthOf, idOf, headerSize, headerBytes, headerNumber}
 use Rattle.header.specs.Laws.{id-widths}
-use Rattle.kinds.specs.Table.{Field, Kind, kinds}
+use Rattle.kinds.specs.Table.{Kind, kinds}
 use Rattle.kinds.specs.Content.{Content, shared, size, split, bytes, find, fieldsOf}
 use Rattle.kinds.specs.Number.{sends, surplus, wideId, complete, tailOk, sizeOk, bad, isNone, streamsAlone, kindNumber, wireNumber}
-use Rattle.kinds.specs.Codec.{layout, contentAt, decode, orNext, readNumber, bodyOf, encode, bodyLength, packetNumber, Accepted}
+use Rattle.kinds.specs.Codec.{layout, contentAt, decode, readNumber, bodyOf, encode, bodyLength, packetNumber, Accepted}
 use Rattle.kinds.specs.Laws.{and-left, complete-split, fitting-split}
 use Rattle.kinds.specs.RoundTrip.{none-holds, both-zero}
 use Rattle.kinds.specs.Again.{Octets, octets-drop, number-again, again}

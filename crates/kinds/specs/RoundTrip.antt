@@ -1,15 +1,15 @@
 -- The round trip: for every link and every packet that the writer accepts, its bytes are one whole packet whose number is 0,
 -- and reading them gives that packet. One statement over all kinds and both widths of an id.
 -- Assumes nothing.
-use mathlib.Core.Path.{_≡_, refl, sym, ap, subst, _∙_}
-use mathlib.Core.Bool.{Bool, true, false, cond, not, _&&_, _||_, false≢true}
-use mathlib.Core.List.{List, [], _∷_, _++_}
+use mathlib.Core.Path.{_≡_, refl, sym, ap, _∙_}
+use mathlib.Core.Bool.{Bool, true, false, not, _&&_, _||_, false≢true}
+use mathlib.Core.List.{List, [], _∷_}
 use mathlib.Core.Option.{Option, none, some}
 use Prim.Native.Nat.{ℕ, _+_, _^_, _≤_, _<_}
 use native.Mathlib.Omega.{arith}
 use lib.ListN.{length, drop, length-append}
 use lib.Seq.{drop-at}
-use lib.Dec.{eqb, leb, ltb}
+use lib.Dec.{eqb, ltb}
 use borrow.Author.Tests.{eqb-true, eqb-false, leb-false, ltb-true, le-ltb, not-false, eq-eqb}
 use Rattle.header.specs.declared.Link.{Link}
 use Rattle.header.specs.Link.{sharedSet, idWidth}
@@ -17,9 +17,9 @@ use Rattle.header.specs.Header.{kindOf, lengthOf, idOf, headerSize, headerBytes
 use Rattle.header.specs.Laws.{header-length, kind-back, length-back, id-back, short, id-widths}
 use Rattle.number.specs.Little.{le}
 use Rattle.kinds.specs.Table.{Field, Kind, Id, id-any, id-zero, kinds}
-use Rattle.kinds.specs.Content.{Value, Content, shared, size, split, bytes, named, find, fieldsOf}
-use Rattle.kinds.specs.Number.{sends, surplus, wideId, complete, tailOk, sizeOk, badFields, badTail, badId, bad, isNone, orElse, streamsAlone, inOrder, kindNumber, byKind, wireNumber}
-use Rattle.kinds.specs.Codec.{layout, contentAt, decode, orNext, readNumber, bodyOf, encode, bodyLength, packetNumber, Accepted, Fitting}
+use Rattle.kinds.specs.Content.{Content, shared, size, split, bytes, named, find}
+use Rattle.kinds.specs.Number.{sends, surplus, wideId, complete, tailOk, sizeOk, badFields, badTail, badId, bad, isNone, orElse, streamsAlone, inOrder, kindNumber, wireNumber}
+use Rattle.kinds.specs.Codec.{layout, contentAt, decode, orNext, readNumber, bodyOf, encode, bodyLength, packetNumber, Accepted}
 use Rattle.kinds.specs.Laws.{and-left, and-right, or-left, or-right, isNone-left, isNone-right, Fit, fit, round, length-of, rest-back}
 
 -- ---- what a number of 0 says

@@ -4,7 +4,7 @@
 use mathlib.Core.Path.{_≡_, refl, sym, ap, _∙_}
 use mathlib.Core.Bool.{Bool, true, false, cond, _&&_, _||_, false≢true}
 use mathlib.Core.List.{List, [], _∷_, map}
-use mathlib.Core.Option.{Option, none, some}
+use mathlib.Core.Option.{none, some}
 use Prim.Native.Nat.{ℕ, zero, suc, _+_, _-_, _*_, _≤_, _<_}
 use native.Mathlib.Nat.{add-zero, suc-add, add-suc, zero-add, le-of-suc-le-suc, not-suc-le-zero}
 use native.Mathlib.Omega.{arith}
@@ -12,7 +12,7 @@ use lib.ListN.{length, getD}
 use lib.Dec.{eqb, leb, lit≤}
 use borrow.Author.Tests.{eqb-true, le-leb, lt-leb, leb-true}
 use Rattle.kinds.specs.Table.{Bits, Field, Kind, kinds, kindAt, none-such}
-use Rattle.kinds.specs.Content.{sizeOf, size, find}
+use Rattle.kinds.specs.Content.{size, find}
 use Rattle.kinds.specs.Laws.{and-left, and-right}
 
 -- n numbers from i on

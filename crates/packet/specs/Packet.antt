@@ -1,14 +1,14 @@
 -- The packet of the code and what it says: for each variant its kind's number and the values of its fields, in body order.
 -- Assumes nothing: these are definitions.
 use Prim.Native.Nat.{ℕ, _/_, _%_}
-use mathlib.Core.Bool.{Bool, true, false, cond, _||_}
+use mathlib.Core.Bool.{Bool, true, cond, _||_}
 use mathlib.Core.List.{List, [], _∷_, _++_}
-use mathlib.Core.Option.{Option, none, some}
+use mathlib.Core.Option.{none}
 use lib.ListN.{length, drop}
 use lib.Seq.{slice}
 use lib.Dec.{eqb, ltb}
 use Rattle.number.specs.Bits.{hasBit}
-use Rattle.kinds.specs.Table.{Bits, always, bit, bits, Field}
+use Rattle.kinds.specs.Table.{Bits, always, bit, bits}
 use Rattle.kinds.specs.Content.{Value, one, Content, size, split}
 use Rattle.kinds.specs.Codec.{layout}
 use Rattle.packet.specs.declared.Part.{Part}

@@ -10,7 +10,7 @@ use lib.ListN.{length, take, drop, length-append, take-append-drop}
 use lib.Seq.{take-append-le, take-append-seam}
 use lib.Dec.{ltb}
 use borrow.Author.Tests.{lt-ltb, le-ltb, ltb-false}
-use Rattle.roundtrip.specs.Cut.{Cut, more, whole, cutOf}
+use Rattle.roundtrip.specs.Cut.{more, whole, cutOf}
 use Rattle.roundtrip.specs.Wire.{Wire, Good, WireLaws, cut}
 
 -- of two ways to split one list, the longer first part begins with the shorter one

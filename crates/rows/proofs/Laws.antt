@@ -1,10 +1,10 @@
 -- A cell of a column, read where it stands.
 -- Assumes nothing.
 use mathlib.Core.Path.{_≡_, refl, sym, ap, _∙_}
-use mathlib.Core.Bool.{Bool, true, false, cond, _&&_}
-use mathlib.Core.List.{List, [], _∷_}
+use mathlib.Core.Bool.{Bool, true, false, cond}
+use mathlib.Core.List.{List, []}
 use Prim.Native.Nat.{ℕ, zero, suc, _+_, _-_, _*_, _^_, _≤_, _<_}
-use native.Mathlib.Nat.{pow-suc, add-zero, zero-add, add-assoc, add-comm, suc-mul, mul-comm, zero-mul, not-suc-le-zero, le-of-suc-le-suc}
+use native.Mathlib.Nat.{pow-suc, add-zero, zero-add, add-assoc, add-comm, suc-mul, zero-mul, not-suc-le-zero, le-of-suc-le-suc}
 use native.Mathlib.Omega.{arith}
 use lib.ListN.{length, getD, drop, length-drop, List·getD-eq-default}
 use lib.Seq.{drop-drop}
@@ -20,7 +20,7 @@ use Rattle.rows.specs.declared.EndpointRow.{EndpointRow}
 use Rattle.rows.specs.declared.InterfaceRow.{InterfaceRow}
 use Rattle.packet.specs.declared.Optional16.the-variants.{Absent, Present}
 use Rattle.packet.specs.Packet.{columnsOf}
-use Rattle.rows.specs.declared.Optional32.the-variants.{Absent as Absent32, Present as Present32}
+use Rattle.rows.specs.declared.Optional32.the-variants.{Present as Present32}
 use Rattle.rows.specs.Rows.{cellAt, element, optional16Of, optional32Of, interfaceRow, endpointRow}
 
 at-number : (w n : ℕ) (s : List ℕ) (at i : ℕ) → i < n → getD (numbers w n s at) i 0 ≡ le w s (at + i * w)

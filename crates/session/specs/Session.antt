@@ -1,7 +1,7 @@
 -- A session: both hellos, whether it is stopped, what each direction holds, the device, and the requests that wait.
 -- Assumes nothing: these are definitions.
 use Prim.Native.Nat.{ℕ}
-use mathlib.Core.Bool.{Bool, true, false, not, _&&_, _||_}
+use mathlib.Core.Bool.{Bool, false, not, _&&_, _||_}
 use lib.Dec.{ltb}
 use Rattle.number.specs.Bits.{hasBit}
 use Rattle.header.specs.declared.Side.the-variants.{Guest}

@@ -5,11 +5,10 @@ use mathlib.Core.Bool.{Bool, true, false, cond, not, _&&_}
 use mathlib.Core.Option.{Option, none, some}
 use lib.Dec.{eqb}
 use Rattle.kinds.specs.Number.{isGuest}
-use Rattle.header.specs.declared.Side.{Side}
 use Rattle.header.specs.declared.Hello.{Hello}
 use Rattle.header.specs.declared.Hello.the-variants.{Awaited, Passed}
 use Rattle.device.specs.declared.Introduction.{Introduction}
-use Rattle.device.specs.declared.Introduction.the-variants.{Nothing, One, Two}
+use Rattle.device.specs.declared.Introduction.the-variants.{One, Two}
 use Rattle.device.specs.declared.Device.{Device}
 use Rattle.device.specs.declared.Rows.{Rows}
 use Rattle.device.specs.declared.Scope.{Scope}

@@ -25,7 +25,7 @@ use Rattle.kinds.specs.Codec.{layout, decode, encode, orNext, readNumber, bodyL
 use Rattle.kinds.specs.Laws.{and-left, and-right, isNone-left, isNone-right, first-good, FitField, Fit}
 use Rattle.kinds.specs.RoundTrip.{accepted, RoundTrip, round-trip}
 use Rattle.roundtrip.specs.Wire.{Wire, Good, WireLaws}
-use Rattle.roundtrip.specs.Prefix.{allBytes, AllAccepted, same, not-begun, begins, apart}
+use Rattle.roundtrip.specs.Prefix.{allBytes, AllAccepted, same, not-begun, apart}
 
 -- each field has its place among the values, and one that is not there by `has` has none
 abbrev pub AbsentIn : (Bits → Bool) → List Field → List Value → Type 0
@@ -141,11 +141,6 @@ no-prefix l = not-begun usbredir laws l
 -- two lists of accepted packets that give the same bytes are the same
 pub same-lists : (l : Link) (ps qs : List Content) → AllAccepted usbredir l ps → AllAccepted usbredir l qs → allBytes usbredir l ps ≡ allBytes usbredir l qs → ps ≡ qs
 same-lists l = apart usbredir laws l
-
--- and one's bytes begin the other's only if its list does
-pub list-begins : (l : Link) (ps qs : List Content) (rest : List ℕ) → AllAccepted usbredir l ps → AllAccepted usbredir l qs → allBytes usbredir l ps ≡ allBytes usbredir l qs ++ rest
-    → (more : List Content) × (ps ≡ qs ++ more)
-list-begins l = begins usbredir laws l
 
 -- ---- "What the shared set doesn't allow, the writer refuses by number."
 

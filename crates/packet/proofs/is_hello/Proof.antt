@@ -1,7 +1,7 @@
 -- `packet::is_hello` meets its contract: the other kinds are told by their places in the enum.
 -- Assumes nothing.
 use Prim.Native.Nat.{ℕ}
-use mathlib.Core.Bool.{Bool, true, false}
+use mathlib.Core.Bool.{false}
 use mathlib.Core.List.{List, [], _∷_}
 use mathlib.Core.Path.{_≡_, refl, sym, ap}
 use denote.Enum.Declared.{tagOf}

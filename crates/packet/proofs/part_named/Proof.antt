@@ -1,10 +1,8 @@
 -- `packet::part_named` meets its contract: by cases of the packet; the kinds that name no part are told by their places in the enum.
 -- Assumes nothing.
 use Prim.Native.Nat.{ℕ}
-use mathlib.Core.Bool.{Bool, true, false, _||_, false≢true}
 use mathlib.Core.List.{List, [], _∷_}
 use mathlib.Core.Path.{_≡_, refl, sym, ap}
-use lib.Dec.{eqb}
 use denote.Enum.Declared.{tagOf}
 use types.Run.{OneOf, miss}
 use Rattle.packet.specs.declared.Packet.{Packet}

@@ -1,10 +1,9 @@
 -- `rows::cell` meets its contract: a number that is there is read where it stands, any other is 0.
 -- Assumes nothing.
-use Prim.Native.Nat.{ℕ, _+_, _*_, _≤_, _<_, _^_, min}
-use mathlib.Core.Path.{_≡_, sym, ap, _∙_}
+use Prim.Native.Nat.{ℕ, _+_, _*_, _≤_, min}
+use mathlib.Core.Path.{_≡_, ap, _∙_}
 use native.Mathlib.Nat.{mul-le-mul-right}
 use native.Mathlib.Omega.{arith}
-use lib.Dec.{lit<}
 use Rattle.number.specs.Little.{le}
 use Rattle.rows.proofs.Laws.{cell-there, cell-short, cell-past, one-more}
 use borrow.Author.Needs.{needs}

@@ -1,6 +1,5 @@
 -- `rows::given16` meets its contract: by the test that was taken.
 -- Assumes nothing.
-use mathlib.Core.Path.{sym}
 use borrow.Author.Needs.{needs}
 use Rattle.rows.proofs.given16.Statement.{statement}
 use Rattle.rows.proofs.given16.Tie as tie

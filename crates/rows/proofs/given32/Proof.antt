@@ -1,6 +1,5 @@
 -- `rows::given32` meets its contract: by the test that was taken.
 -- Assumes nothing.
-use mathlib.Core.Path.{sym}
 use borrow.Author.Needs.{needs}
 use Rattle.rows.proofs.given32.Statement.{statement}
 use Rattle.rows.proofs.given32.Tie as tie
