@@ -1,5 +1,5 @@
--- Each call, in the words of document 01 and without the definitions' own tests: when a reader call is 41, 43, 3 or 2 (`bars`), when a writer call is
--- 43, 3 or 2 (`shuts`), what a reader call takes and leaves of the buffer, and where the packet lies (`leaves`), and when it stops the session (`stops`).
+-- Each call, in the words of document 01 and without the definitions' own tests: the number of a reader call, in its order (`bars`), that of a
+-- writer call (`shuts`), what a reader call takes and leaves of the buffer, and where the packet lies (`leaves`), and when it stops the session (`stops`).
 -- Assumes nothing.
 use Prim.Native.Nat.{ℕ, _+_, _-_, _≤_, _<_}
 use native.Mathlib.Omega.{arith}
@@ -9,8 +9,8 @@ use mathlib.Core.List.{List, [], _∷_, _++_}
 use mathlib.Core.Option.{Option, none}
 use lib.ListN.{length, take, drop, length-append, take-append-drop}
 use lib.Seq.{sets, sets-eq, drop-at, length-take-le}
-use lib.Dec.{eqb}
-use borrow.Author.Tests.{eqb-true, lt-ltb, le-ltb}
+use lib.Dec.{eqb, ltb}
+use borrow.Author.Tests.{eqb-true, ne-eqb, lt-ltb, le-ltb}
 use borrow.Table.Steps.{cases}
 use Rattle.number.specs.Laws.{le-front}
 use Rattle.scan.specs.Logic.{or-none}
@@ -18,28 +18,32 @@ use Rattle.header.specs.declared.Side.{Side}
 use Rattle.header.specs.declared.Side.the-variants.{Guest, Host}
 use Rattle.header.specs.declared.Link.{Link}
 use Rattle.header.specs.Link.{passed, sharedSet}
-use Rattle.header.specs.Header.{kindOf, lengthOf}
+use Rattle.header.specs.Header.{kindOf, lengthOf, headerNumber}
 use Rattle.kinds.specs.Table.{kinds, kindAt}
 use Rattle.kinds.specs.Content.{Content, find}
 use Rattle.kinds.specs.Number.{surplus, wideId, sizeOk, bad as bad-place, isNone, streamsAlone, inOrder, kindNumber, byKind, wireNumber}
-use Rattle.kinds.specs.Codec.{contentAt, decode, readNumber}
+use Rattle.kinds.specs.Codec.{contentAt, decode, encode, orNext, readNumber, bodyLength, packetNumber, writeNumber}
 use Rattle.decoder.specs.Reading.{Handed}
 use Rattle.events.specs.Event.{eventOf}
 use Rattle.session.specs.declared.Session.{Session}
 use Rattle.session.specs.Session.{linkOf, unfit}
+use Rattle.checks.specs.Checks.{firstOf}
 use Rattle.claims.specs.Allowed.{among}
+use Rattle.claims.specs.Number.{checksBy}
 use Rattle.claims.specs.Kept.{kept-plain}
 use Rattle.roundtrip.specs.Cut.{Cut, more, bad, whole}
 use Rattle.roundtrip.specs.Told.{IsBad, bad-is, whole-is, whole-fits}
 use Rattle.wire.specs.Wire.{usbredir, laws, hello-fields}
-use Rattle.frame.specs.Frame.{headSize, cutAt, completed, placeFor, bytesAt}
+use Rattle.frame.specs.Frame.{headSize, headNumber, cutAt, completed, placeFor, bytesAt}
 use Rattle.verdict.specs.Verdict.{stoppedNow, refusedAs, verdictOf}
 use Rattle.gate.specs.Offer.{heldOf, heldAs, heldBytes, isWaiting, heldWhole, barred, Outcome, byCut, offerOf, Whole}
-use Rattle.gate.specs.Write.{shut}
+use Rattle.gate.specs.Write.{shut, writeBy}
 use Rattle.gate.specs.Laws.{is-more, lies, Fit, fit-is, is-fit, Ready, ready, held-few, whole-here, header-here}
 use Rattle.demands.specs.Numbers.{header-numbers, wire-numbers, session-numbers, barred-numbers}
 use Rattle.demands.specs.Kept.{whole-number, verdict-numbers}
 use Rattle.demands.specs.Cuts.{ends, barred-silent, verdict-ends}
+use Rattle.demands.specs.Demand2.{packetAt, number-in-gate}
+use Rattle.demands.specs.Demand3.{offer-open}
 
 -- ---- 2: "own hello passed, other's not"
 
@@ -65,28 +69,72 @@ waiting-is Host s = go (passed (s .guest)) (passed (s .host))
     go false true = refl
     go false false = refl
 
--- ---- 41, 43, 3, 2, in that order
+-- ---- the reader's order: 41, 43, 3, 2, then 1, or 10 to 12, or the number of a whole packet
 
 -- "held bytes of this direction already a whole packet or a header for 10 to 12" does not hold
 abbrev pub Unfinished : Side → Session → List ℕ → Type 0
 Unfinished from s hold = cutAt (linkOf from s) (heldBytes from s hold) ≡ more
 
-pub record Bars (from : Side) (s : Session) (hold : List ℕ) (n : ℕ) : Type 0 where
-  pub short : length hold < 32784 → n ≡ 41
-  pub unfit : 32784 ≤ length hold → (Fit s × Unfinished from s hold → ⊥) → n ≡ 43
-  pub stopped : 32784 ≤ length hold → Fit s → Unfinished from s hold → s .stopped ≡ true → n ≡ 3
-  pub waiting : 32784 ≤ length hold → Fit s → Unfinished from s hold → s .stopped ≡ false → ownPassed from s ≡ true → otherPassed from s ≡ false → n ≡ 2
-  pub going : 32784 ≤ length hold → Fit s → Unfinished from s hold → s .stopped ≡ false → (ownPassed from s ≡ true → otherPassed from s ≡ true) → n ≡ 0
+-- none of 41, 43, 3 and 2 holds
+pub record Goes (from : Side) (s : Session) (hold : List ℕ) : Type 0 where
+  pub room : 32784 ≤ length hold
+  pub fit : Fit s
+  pub begun : Unfinished from s hold
+  pub running : s .stopped ≡ false
+  pub speaking : ownPassed from s ≡ true → otherPassed from s ≡ true
 
-pub bars : (from : Side) (s : Session) (hold : List ℕ) → Bars from s hold (barred from s hold)
-unfolding barred
-bars from s hold =
+-- 10, 11 and 12
+abbrev pub ofHeader : ℕ → Bool
+ofHeader n = among (10 ∷ 11 ∷ 12 ∷ []) n
+
+-- the number of a call. "Order: 41, 3, 2, then 1 for an incomplete packet, with 43 right after 41."
+pub record Bars (from : Side) (s : Session) (hold piece : List ℕ) (n : ℕ) : Type 0 where
+  -- "holding buffer under 32,784 bytes"
+  pub short : length hold < 32784 → n ≡ 41
+  -- "session not one the gate can leave"
+  pub unfit : 32784 ≤ length hold → (Fit s × Unfinished from s hold → ⊥) → n ≡ 43
+  -- "session stopped"
+  pub stopped : 32784 ≤ length hold → Fit s → Unfinished from s hold → s .stopped ≡ true → n ≡ 3
+  -- "own hello passed, other's not"
+  pub waiting : 32784 ≤ length hold → Fit s → Unfinished from s hold → s .stopped ≡ false → ownPassed from s ≡ true → otherPassed from s ≡ false → n ≡ 2
+  -- "piece used up, packet not whole"
+  pub not-whole : Goes from s hold → cutAt (linkOf from s) (heldBytes from s hold ++ piece) ≡ more → n ≡ 1
+  -- "But 10, 11, 12 (that order) fall when the header is whole"
+  pub header : Goes from s hold → (m : ℕ) → cutAt (linkOf from s) (heldBytes from s hold ++ piece) ≡ bad m → (n ≡ headNumber (linkOf from s) (heldBytes from s hold ++ piece)) × (ofHeader n ≡ true)
+  -- "10 to 24 are the wire checks, 25 to 34 the session checks."
+  pub packet : Goes from s hold → (m : ℕ) → cutAt (linkOf from s) (heldBytes from s hold ++ piece) ≡ whole m
+      → n ≡ orNext (wireNumber (linkOf from s) (packetAt from s hold piece m)) (firstOf (checksBy s from (packetAt from s hold piece m)))
+
+-- who may speak does not wait
+not-waiting : (from : Side) (s : Session) → (ownPassed from s ≡ true → otherPassed from s ≡ true) → isWaiting (linkOf from s) ≡ false
+not-waiting from s h = waiting-is from s ∙ go (ownPassed from s) refl (otherPassed from s) refl
+  where
+    go : (a : Bool) → ownPassed from s ≡ a → (b : Bool) → otherPassed from s ≡ b → (a && not b) ≡ false
+    go false ea b eb = refl
+    go true ea true eb = refl
+    go true ea false eb = absurd (true≢false (sym (h ea) ∙ eb))
+
+goes-ready : (from : Side) (s : Session) (hold : List ℕ) → Goes from s hold → Ready from s hold
+goes-ready from s hold g = record { room = g .room; fit = is-fit s (g .fit); begun = g .begun; running = g .running; speaking = not-waiting from s (g .speaking) }
+
+-- a header that is refused has one of the numbers 10, 11 and 12
+header-number : (l : Link) (b : List ℕ) (n : ℕ) → cutAt l b ≡ bad n → ofHeader n ≡ true
+header-number l b n e =
+    let i : IsBad usbredir l b n = bad-is usbredir l b n e in
+    subst (λ (m : ℕ). (m ≡ 0 → ⊥) → ofHeader m ≡ true) (i .number)
+    (header-numbers (λ m. (m ≡ 0 → ⊥) → ofHeader m ≡ true) ((λ z. absurd (z refl)), ((λ z. refl), ((λ z. refl), ((λ z. refl), tt)))) l (kindOf b) (lengthOf b)) (i .refused)
+
+pub bars : (from : Side) (s : Session) (hold piece : List ℕ) → Bars from s hold piece (offerOf from s hold piece .number)
+unfolding offerOf barred
+bars from s hold piece =
     record {
       short = λ h. rw (lt-ltb (length hold) 32784 h) refl;
       unfit = λ h z. rw (le-ltb (length hold) 32784 h, bad-state z) refl;
       stopped = λ h f m t. rw (le-ltb (length hold) 32784 h, is-fit s f, m, t) refl;
       waiting = λ h f m t a b. rw (le-ltb (length hold) 32784 h, is-fit s f, m, t, waiting-is from s, a, b) refl;
-      going = λ h f m t a. rw (le-ltb (length hold) 32784 h, is-fit s f, m, t) (speaks (ownPassed from s) refl (otherPassed from s) refl a);
+      not-whole = λ g e. is-cut g more e;
+      header = λ g m e. let q = is-cut g (bad m) e in (q ∙ sym (bad-is usbredir (linkOf from s) (heldBytes from s hold ++ piece) m e .number), subst (λ (k : ℕ). ofHeader k ≡ true) (sym q) (header-number (linkOf from s) (heldBytes from s hold ++ piece) m e));
+      packet = λ g m e. number-in-gate from s hold piece (goes-ready from s hold g) m e;
     }
   where
     bad-state : (Fit s × Unfinished from s hold → ⊥) → (unfit s || heldWhole from s hold) ≡ true
@@ -97,29 +145,37 @@ bars from s hold =
         go false ea true eb = refl
         go false ea false eb = absurd (z (fit-is s ea, is-more (cutAt (linkOf from s) (heldBytes from s hold)) eb))
 
-    speaks : (a : Bool) → ownPassed from s ≡ a → (b : Bool) → otherPassed from s ≡ b → (ownPassed from s ≡ true → otherPassed from s ≡ true) → _≡_ {A = ℕ} (cond (isWaiting (linkOf from s)) 2 0) 0
-    speaks false ea b eb h = rw (waiting-is from s, ea) refl
-    speaks true ea true eb h = rw (waiting-is from s, ea, eb) refl
-    speaks true ea false eb h = absurd (true≢false (sym (h ea) ∙ eb))
+    is-cut : Goes from s hold → (c : Cut) → cutAt (linkOf from s) (heldBytes from s hold ++ piece) ≡ c → offerOf from s hold piece .number ≡ byCut from s hold piece c .number
+    is-cut g c e = ap (λ (o : Outcome). o .number) (offer-open from s hold piece (goes-ready from s hold g) ∙ ap (byCut from s hold piece) e)
 
--- ---- the writer: 43, 3, and 2 for a non-hello
+-- ---- the writer's order: 43, 3, and 2 for a non-hello, then the wire checks, then 40
 
-pub record Shuts (from : Side) (s : Session) (hello : Bool) (n : ℕ) : Type 0 where
+-- "It gives 43 (held bytes untested), 3, 2 (for a non-hello) as the reader does, then makes the wire checks, 10 to 12 included, then 40, and
+-- accepts all else."
+pub record Shuts (from : Side) (s : Session) (p : Content) (room n : ℕ) : Type 0 where
   pub unfit : (Fit s → ⊥) → n ≡ 43
   pub stopped : Fit s → s .stopped ≡ true → n ≡ 3
-  pub waiting : Fit s → s .stopped ≡ false → hello ≡ false → ownPassed from s ≡ true → otherPassed from s ≡ false → n ≡ 2
-  pub hello-goes : Fit s → s .stopped ≡ false → hello ≡ true → n ≡ 0
-  pub going : Fit s → s .stopped ≡ false → (ownPassed from s ≡ true → otherPassed from s ≡ true) → n ≡ 0
+  pub waiting : Fit s → s .stopped ≡ false → (p .kind ≡ 0 → ⊥) → ownPassed from s ≡ true → otherPassed from s ≡ false → n ≡ 2
+  pub going : Fit s → s .stopped ≡ false → ((p .kind ≡ 0 → ⊥) → ownPassed from s ≡ true → otherPassed from s ≡ true)
+      → n
+      ≡ orNext (headerNumber (linkOf from s) (p .kind) (bodyLength (linkOf from s) p))
+      (orNext (wireNumber (linkOf from s) p) (cond (ltb room (length (encode (linkOf from s) p))) 40 0))
 
-pub shuts : (from : Side) (s : Session) (hello : Bool) → Shuts from s hello (shut from s hello)
-unfolding shut
-shuts from s hello =
+next-next : (a b c : ℕ) → orNext (orNext a b) c ≡ orNext a (orNext b c)
+next-next a b c = go (eqb a 0) refl
+  where
+    go : (t : Bool) → eqb a 0 ≡ t → orNext (cond t b a) c ≡ cond t (orNext b c) a
+    go true e = refl
+    go false e = rw e refl
+
+pub shuts : (from : Side) (s : Session) (p : Content) (room : ℕ) → Shuts from s p room (writeBy from s p room)
+unfolding writeBy shut writeNumber packetNumber
+shuts from s p room =
     record {
       unfit = λ z. rw (not-fit z) refl;
       stopped = λ f t. rw (is-fit s f, t) refl;
-      waiting = λ f t h a b. rw (is-fit s f, t, h, waiting-is from s, a, b) refl;
-      hello-goes = λ f t h. rw (is-fit s f, t, h, no (isWaiting (linkOf from s))) refl;
-      going = λ f t a. rw (is-fit s f, t) (speaks (ownPassed from s) refl (otherPassed from s) refl a hello);
+      waiting = λ f t h a b. rw (is-fit s f, t, ne-eqb (p .kind) 0 h, waiting-is from s, a, b) refl;
+      going = λ f t a. rw (is-fit s f, t, speaks a) (next-next (headerNumber (linkOf from s) (p .kind) (bodyLength (linkOf from s) p)) (wireNumber (linkOf from s) p) (cond (ltb room (length (encode (linkOf from s) p))) 40 0));
     }
   where
     not-fit : (Fit s → ⊥) → unfit s ≡ true
@@ -133,20 +189,14 @@ shuts from s hello =
     no true = refl
     no false = refl
 
-    speaks : (a : Bool) → ownPassed from s ≡ a → (b : Bool) → otherPassed from s ≡ b → (ownPassed from s ≡ true → otherPassed from s ≡ true) → (h : Bool) → _≡_ {A = ℕ} (cond (isWaiting (linkOf from s) && not h) 2 0) 0
-    speaks false ea b eb g h = rw (waiting-is from s, ea) refl
-    speaks true ea true eb g h = rw (waiting-is from s, ea, eb) refl
-    speaks true ea false eb g h = absurd (true≢false (sym (g ea) ∙ eb))
+    speaks : ((p .kind ≡ 0 → ⊥) → ownPassed from s ≡ true → otherPassed from s ≡ true) → (isWaiting (linkOf from s) && not (eqb (p .kind) 0)) ≡ false
+    speaks g = cases (eqb (p .kind) 0) (λ t. rw t (no (isWaiting (linkOf from s)))) (λ t. rw (t, not-waiting from s (g (λ z. true≢false (sym (ap (λ (m : ℕ). eqb m 0) z) ∙ t)))) refl)
 
 -- ---- what a call leaves
 
 -- 2, 3, 41 and 43
 abbrev pub nothing : ℕ → Bool
 nothing n = among (2 ∷ 3 ∷ 41 ∷ 43 ∷ []) n
-
--- 10, 11 and 12
-abbrev pub ofHeader : ℕ → Bool
-ofHeader n = among (10 ∷ 11 ∷ 12 ∷ []) n
 
 pub record Leaves (from : Side) (s : Session) (hold piece : List ℕ) (o : Outcome) : Type 0 where
   -- "takes nothing"; "nothing taken or changed"
@@ -174,13 +224,7 @@ ends-moved n h m = cases (eqb n 1) (λ t. false≢true (rw t at h)) (λ t. false
 ends-other : (n : ℕ) → ends n ≡ true → n ≡ 1 → ⊥
 ends-other n h e = false≢true (rw e at h)
 
--- a header that is refused has one of these numbers, a whole packet none
-header-number : (l : Link) (b : List ℕ) (n : ℕ) → cutAt l b ≡ bad n → ofHeader n ≡ true
-header-number l b n e =
-    let i : IsBad usbredir l b n = bad-is usbredir l b n e in
-    subst (λ (m : ℕ). (m ≡ 0 → ⊥) → ofHeader m ≡ true) (i .number)
-    (header-numbers (λ m. (m ≡ 0 → ⊥) → ofHeader m ≡ true) ((λ z. absurd (z refl)), ((λ z. refl), ((λ z. refl), ((λ z. refl), tt)))) l (kindOf b) (lengthOf b)) (i .refused)
-
+-- and a whole packet has none of them
 packet-number : (d : Side) (s : Session) (b : List ℕ) (n : ℕ) → cutAt (linkOf d s) b ≡ whole n → ofHeader (verdictOf (heldAs d 0 s) d (take n b) .number) ≡ false
 packet-number d s b n e = verdict-numbers (λ m. ofHeader m ≡ false) (refl, (refl, (refl, (refl, (refl, (refl, (refl, tt))))))) (refl, (refl, (refl, (refl, (refl, (refl, (refl, (refl, (refl, (refl, (refl, tt))))))))))) d (heldAs d 0 s) b n e
 

@@ -1,13 +1,14 @@
 -- Demand 1: every call gets a number of document 01, takes no more than its piece, and on refusal changes no endpoint, stream or request;
--- a refused write puts no byte out. That no call strays outside its memory is the checker's own condition on every access.
+-- a refused write puts no byte out, and none changes a byte behind those that it puts out. That no call strays outside its memory is the
+-- checker's own condition on every access.
 -- Assumes nothing.
 use Prim.Native.Nat.{ℕ, _+_, _≤_}
 use native.Mathlib.Omega.{arith}
-use mathlib.Core.Path.{_≡_, refl, sym, subst}
-use mathlib.Core.Bool.{Bool, true, false, cond, not, _&&_}
+use mathlib.Core.Path.{_≡_, refl, sym, ap, subst, _∙_}
+use mathlib.Core.Bool.{Bool, true, false, cond, not, _&&_, true≢false}
 use mathlib.Core.List.{List, [], _∷_, _++_}
-use lib.ListN.{length, take}
-use lib.Seq.{length-sets}
+use lib.ListN.{length, take, drop, length-append, length-drop}
+use lib.Seq.{length-sets, drop-at}
 use lib.Dec.{eqb, ltb}
 use borrow.Author.Tests.{eqb-true, ne-eqb}
 use borrow.Table.Steps.{cases}
@@ -17,6 +18,7 @@ use Rattle.header.specs.Header.{kindOf, lengthOf, headerNumber}
 use Rattle.kinds.specs.Content.{Content}
 use Rattle.kinds.specs.Number.{wireNumber}
 use Rattle.kinds.specs.Codec.{decode, encode, orNext, readNumber, bodyLength, packetNumber, writeNumber, written, writtenSize}
+use Rattle.kinds.specs.RoundTrip.{both-zero}
 use Rattle.events.specs.Event.{eventOf}
 use Rattle.session.specs.declared.Session.{Session}
 use Rattle.session.specs.Session.{linkOf, unfit}
@@ -32,6 +34,7 @@ use Rattle.gate.specs.Write.{shut, writeBy, output, outputSize}
 use Rattle.gate.specs.Laws.{completed-length, whole-here, header-here, Ready, ready, held-few}
 use Rattle.demands.specs.Numbers.{header-numbers, wire-numbers, barred-numbers}
 use Rattle.demands.specs.Kept.{verdict-numbers}
+use Rattle.demands.specs.Demand2.{writer-exactly}
 
 -- the numbers of document 01 that a reader call can give, and those that a writer call can
 abbrev pub readNumbers : List ℕ
@@ -60,6 +63,9 @@ pub record Answered (s : Session) (hold piece : List ℕ) (o : Outcome) : Type 0
 -- of a writer call
 pub record Put (from : Side) (s : Session) (p : Content) (out : List ℕ) : Type 0 where
   pub number : among writeNumbers (writeBy from s p (length out)) ≡ true
+  -- "every byte of memory it was handed, also on refusal": behind the bytes put out the output is as it was, and as long
+  pub behind : drop (outputSize from s p (length out)) (output from s p out) ≡ drop (outputSize from s p (length out)) out
+  pub as-long : length (output from s p out) ≡ length out
   -- "a refused write puts no byte out"
   pub output : (writeBy from s p (length out) ≡ 0 → ⊥) → output from s p out ≡ out
   pub size : (writeBy from s p (length out) ≡ 0 → ⊥) → outputSize from s p (length out) ≡ 0
@@ -163,17 +169,43 @@ write-number from s p room =
     room-number true = refl
     room-number false = refl
 
-write-put : (from : Side) (s : Session) (p : Content) (out : List ℕ) → Put from s p out
-unfolding writeBy output outputSize written writtenSize
-write-put from s p out =
-    record {
-      number = write-number from s p (length out);
-      output = λ z. cases (eqb (shut from s (eqb (p .kind) 0)) 0) (λ t. rw t (by-number (λ e. z (rw t e)) .0)) (λ t. rw t refl);
-      size = λ z. cases (eqb (shut from s (eqb (p .kind) 0)) 0) (λ t. rw t (by-number (λ e. z (rw t e)) .1)) (λ t. rw t refl);
-    }
-  where
-    by-number : (writeNumber (linkOf from s) p (length out) ≡ 0 → ⊥) → (written (linkOf from s) p out ≡ out) × (writtenSize (linkOf from s) p (length out) ≡ 0)
-    by-number z = let q = ne-eqb (writeNumber (linkOf from s) p (length out)) 0 z in (rw q refl, rw q refl)
+module _ (from : Side) (s : Session) (p : Content) (out : List ℕ) where
+  abbrev packet : List ℕ
+  packet = encode (linkOf from s) p
+
+  refused-put : (writeBy from s p (length out) ≡ 0 → ⊥) → (output from s p out ≡ out) × (outputSize from s p (length out) ≡ 0)
+  unfolding writeBy output outputSize written writtenSize
+  refused-put z =
+      cases (eqb (shut from s (eqb (p .kind) 0)) 0) (λ t. let q = ne-eqb (writeNumber (linkOf from s) p (length out)) 0 (λ e. z (rw t e)) in (rw (t, q) refl, rw (t, q) refl)) (λ t. (rw t refl, rw t refl))
+
+  accepted-put : writeBy from s p (length out) ≡ 0 → (output from s p out ≡ packet ++ drop (length packet) out) × (outputSize from s p (length out) ≡ length packet)
+  unfolding writeBy output outputSize written writtenSize
+  accepted-put e =
+      let z = both-zero (shut from s (eqb (p .kind) 0)) (writeNumber (linkOf from s) p (length out)) e in
+      (rw (z .0, z .1) refl, rw (z .0, z .1) refl)
+
+  -- the packet in front, or nothing
+  put-as-was : (drop (outputSize from s p (length out)) (output from s p out) ≡ drop (outputSize from s p (length out)) out) × (length (output from s p out) ≡ length out)
+  put-as-was =
+      cases (eqb (writeBy from s p (length out)) 0)
+      (λ t.
+      let e : writeBy from s p (length out) ≡ 0 = eqb-true _ _ t in
+      let q = accepted-put e in
+      let room : length packet ≤ length out = writer-exactly from s p (length out) .0 e .room in (
+        rw (q .0, q .1) (drop-at packet (drop (length packet) out) (length packet) refl),
+        rw (q .0) (omega (arith, room, length-append packet (drop (length packet) out), length-drop (length packet) out)),
+      ))
+      (λ t. let q = refused-put (λ e. true≢false (sym (ap (λ (m : ℕ). eqb m 0) e) ∙ t)) in (ap (drop (outputSize from s p (length out))) (q .0), ap length (q .0)))
+
+  write-put : Put from s p out
+  write-put =
+      record {
+        number = write-number from s p (length out);
+        behind = put-as-was .0;
+        as-long = put-as-was .1;
+        output = λ z. refused-put z .0;
+        size = λ z. refused-put z .1;
+      }
 
 pub demand-1 : Demand1
 demand-1 = record { read = read-answered; write = write-put }

@@ -1,19 +1,26 @@
--- The table of meanings against the lists of document 01, "Session rules", each by computation.
+-- The table of meanings against the lists of document 01, "Session rules", each by computation; and the word of a hello.
 -- Assumes nothing.
-use Prim.Native.Nat.{ℕ, _+_}
-use mathlib.Core.Path.{_≡_, refl}
-use mathlib.Core.Bool.{Bool, true, false, cond, not, _&&_, _||_}
+use Prim.Native.Nat.{ℕ, suc, _+_}
+use mathlib.Core.Path.{_≡_, refl, _∙_}
+use mathlib.Core.Bool.{Bool, true, false, cond, not, _&&_, _||_, false≢true}
 use mathlib.Core.List.{List, [], _∷_}
 use mathlib.Core.Option.{Option, none, some}
-use lib.Dec.{eqb}
+use lib.ListN.{length}
+use lib.Dec.{eqb, leb, leb·zero, leb·suc-suc}
+use Rattle.number.specs.Little.{le}
 use Rattle.header.specs.declared.Side.{Side}
 use Rattle.header.specs.declared.Side.the-variants.{Guest, Host}
-use Rattle.kinds.specs.Table.{Kind, kinds}
-use Rattle.kinds.specs.Number.{sends, isNone}
+use Rattle.kinds.specs.Table.{words, Kind, kinds}
+use Rattle.kinds.specs.Content.{Content}
+use Rattle.kinds.specs.Number.{sends, tailOk, isNone}
+use Rattle.rows.specs.declared.Optional32.{Optional32}
+use Rattle.rows.specs.declared.Optional32.the-variants.{Absent, Present}
+use Rattle.rows.specs.Rows.{wordOf as rowsWord}
 use Rattle.device.specs.Device.{control, iso, bulk, interrupt, invalid}
 use Rattle.events.specs.declared.Class.{Class}
 use Rattle.events.specs.declared.Class.the-variants.{Hello, Connect, Interfaces, Endpoints, Disconnect, Reset, Ack, Cancel, Filter, StartRequest, PlainRequest, StreamStatus, PlainReply, StreamData}
 use Rattle.events.specs.Meaning.{Who, sender, guest, host, host-in, Line, meanings, admits, lookUp}
+use Rattle.events.specs.Event.{eventOf}
 
 -- ---- lines by their class
 
@@ -157,3 +164,25 @@ pub by-sender : (sentAs requests Guest false kinds ≡ requestKinds)
     × (sentAs (StreamData ∷ []) Host true kinds ≡ (102 ∷ 103 ∷ 104 ∷ []))
 unfolding kinds meanings
 by-sender = (refl, refl, refl, refl, refl, refl, refl, refl, refl, refl, refl, refl)
+
+-- ---- the word of a hello
+
+abbrev orZero : Optional32 → ℕ
+orZero Absent = 0
+orZero (Present x) = x
+
+-- the word that the event of a hello carries is its first word, and 0 where it has none
+pub first-word : (from : Side) (p : Content) → p .kind ≡ 0 → tailOk words from [] [] (length (p .rest)) ≡ true
+    → eventOf from p .word ≡ orZero (rowsWord (p .rest) 0)
+unfolding eventOf
+first-word from p k h = rw k (go (p .rest) h)
+  where
+    whole : (n : ℕ) → leb 4 (suc (suc (suc (suc n)))) ≡ true
+    whole n = leb·suc-suc 3 (suc (suc (suc n))) ∙ leb·suc-suc 2 (suc (suc n)) ∙ leb·suc-suc 1 (suc n) ∙ leb·suc-suc 0 n ∙ leb·zero n
+
+    go : (s : List ℕ) → tailOk words from [] [] (length s) ≡ true → le 4 s 0 ≡ orZero (rowsWord s 0)
+    go [] h = refl
+    go (a ∷ []) h = absurd (false≢true h)
+    go (a ∷ b ∷ []) h = absurd (false≢true h)
+    go (a ∷ b ∷ c ∷ []) h = absurd (false≢true h)
+    go (a ∷ b ∷ c ∷ d ∷ s) h = rw (whole (length s))

@@ -175,6 +175,23 @@ pub refused : (number Guest 0 (packet 28 0 [] []) ≡ 20)
 unfolding sharedSet idWidth wireNumber kindNumber bad kinds
 refused = (refl, refl, refl, refl, refl, refl, refl, refl, refl, refl, refl, refl, refl, refl, refl, refl, refl, refl, refl, refl)
 
+-- a filter reject that breaks the rule of the id, and one byte too long
+abbrev reject : Content
+reject = packet 22 1 [] (1 ∷ [])
+
+-- "Where several hold, the lowest from 20 up is given"; "A hello refused with 23, 24 or 13 (that order)"
+pub lowest : (number Host 0 reject ≡ 21)
+    × (number Guest 0 reject ≡ 22)
+    × (number Guest 4 reject ≡ 23)
+    × (number Guest 4 (packet 22 1 [] []) ≡ 24)
+    × (number Guest 4 (packet 22 0 [] []) ≡ 0)
+    × (first (hello 1 (1 ∷ 0 ∷ 0 ∷ 0 ∷ 0 ∷ [])) ≡ 23)
+    × (first (hello 1 (1 ∷ 0 ∷ 0 ∷ 0 ∷ [])) ≡ 24)
+    × (first (hello 0 (replicate 32 0)) ≡ 0)
+    × (first (hello 0 (replicate 36 0)) ≡ 23)
+unfolding sharedSet idWidth wireNumber kindNumber bad kinds
+lowest = (refl, refl, refl, refl, refl, refl, refl, refl, refl)
+
 -- ---- places: of the first bad field, and of an id only where no field is bad
 
 pub places : (bad Host 17 (kindAt 5) (table 4 rows rows) ≡ some 17)

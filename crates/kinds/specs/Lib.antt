@@ -8,3 +8,4 @@ pub mod Examples
 pub mod Slots
 pub mod Again
 pub mod Reread
+pub mod ByRule
