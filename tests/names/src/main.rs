@@ -15,7 +15,7 @@ use std::process::ExitCode;
 use names::{glob, Names};
 
 /// Words in backticks that are no names of the repository; they are left unchecked.
-const ALLOWED: [&str; 14] = [
+const ALLOWED: [&str; 15] = [
     "abbrev",            // a keyword of antt
     "cargo",             // the tool that builds the tests
     "ensures",           // a keyword of Rattle
@@ -28,6 +28,7 @@ const ALLOWED: [&str; 14] = [
     "requires",          // a keyword of Rattle
     "rt",                // the toolchain's command
     "target/bin/report", // the program that is built, no file of the repository
+    "unfoldable",        // a keyword of antt
     "usbredirect",       // a real program that was captured
     "valgrind",          // a tool for measuring
 ];
