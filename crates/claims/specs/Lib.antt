@@ -9,3 +9,4 @@ pub mod Runs
 pub mod Moves
 pub mod Examples
 pub mod Fit
+pub mod Words

@@ -425,12 +425,12 @@ rest-joined Host h h′ T t q Guest = ap (λ (b : List ℕ). b ++ t Guest) (sym 
 rest-joined Host h h′ T t q Host = ap (drop (length (h Host ++ T))) (own-joined Host h T t) ∙ drop-append-seam (h Host ++ T) (t Host) ∙ ap (λ (b : List ℕ). b ++ t Host) (sym (q Host))
 
 -- what a run leaves, with bytes r of each side behind those that it took
-abbrev pub leaves : Both → (Side → List ℕ) → Played
-leaves x r = record { ended = []; session = bare (x .session); rest = λ d. heldBy x d ++ r d }
+abbrev pub leftBy : Both → (Side → List ℕ) → Played
+leftBy x r = record { ended = []; session = bare (x .session); rest = λ d. heldBy x d ++ r d }
 
 -- the claim, of a run and each side's bytes b, of which it leaves r
 abbrev Plays : Both → List Call → (Side → List ℕ) → (Side → List ℕ) → Type 0
-Plays x cs b r = play (sides (endings x cs)) (bare (x .session)) (λ d. heldBy x d ++ b d) ≡ behind (endings x cs) (leaves (final x cs) r)
+Plays x cs b r = play (sides (endings x cs)) (bare (x .session)) (λ d. heldBy x d ++ b d) ≡ behind (endings x cs) (leftBy (final x cs) r)
 
 -- a call before a run: what it took stands before the run's bytes
 module _ (x : Both) (c : Call) (cs : List Call) (b r : Side → List ℕ) where
@@ -459,7 +459,7 @@ module _ (x : Both) (c : Call) (cs : List Call) (b r : Side → List ℕ) where
       (λ i. play (sides (z i)) (bare (x .session)) a)
       ∙ (λ i. play (sides (endings y cs)) (w i) (λ d. p d i))
       ∙ ih
-      ∙ (λ i. behind (sym z i) (leaves (final y cs) r))
+      ∙ (λ i. behind (sym z i) (leftBy (final y cs) r))
 
   ending-plays : Ending x (c .from) (c .piece) o → Plays y cs b r → Plays x (c ∷ cs) before r
   unfolding play endings final
@@ -474,7 +474,7 @@ module _ (x : Both) (c : Call) (cs : List Call) (b r : Side → List ℕ) where
       ∙ (λ i. behind (k i .ended) (play (sides (endings y cs)) (k i .session) (of-side d (drop (k i .size) (a d)) a)))
       ∙ (λ i. behind (e ∷ []) (play (sides (endings y cs)) (bare (y .session)) (λ f. p f i)))
       ∙ ap (behind (e ∷ [])) ih
-      ∙ (λ i. behind (sym z i) (leaves (final y cs) r))
+      ∙ (λ i. behind (sym z i) (leftBy (final y cs) r))
 
   call-plays : Quiet x (c .from) (c .piece) o ⊎ Ending x (c .from) (c .piece) o → Plays y cs b r → Plays x (c ∷ cs) before r
   call-plays (inl q) = quiet-plays q

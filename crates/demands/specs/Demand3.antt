@@ -93,7 +93,7 @@ reader from =
 
 -- a call with the session s: its packet and its output. Where it is accepted, the packet's numbers fit their fields, as the types of the
 -- code's fields make them: the contract of `gate::write` says it of each call (`call-of`).
-pub record Call (from : Side) (s : Session) : Type 0 where
+pub record WriterCall (from : Side) (s : Session) : Type 0 where
   pub packet : Content
   pub out : List ℕ
   pub fits : writeBy from s packet (length out) ≡ 0 → Accepted (linkOf from s) packet
@@ -102,7 +102,7 @@ pub record Call (from : Side) (s : Session) : Type 0 where
 abbrev pub writer : Side → Session → Writer usbredir
 writer from s =
     record {
-      W = Call from s;
+      W = WriterCall from s;
       packet = λ w. w .packet;
       number = λ w. writeBy from s (w .packet) (length (w .out));
       put = λ w. take (outputSize from s (w .packet) (length (w .out))) (output from s (w .packet) (w .out));
@@ -110,7 +110,7 @@ writer from s =
 
 -- every call of the code is such a call, with its packet, its number and the bytes that it put out
 pub record CallOf (from : Side) (s : Session) (p : Content) (r : Written) (after : List ℕ) : Type 0 where
-  pub call : Call from s
+  pub call : WriterCall from s
   pub packet : writer from s .packet call ≡ p
   pub number : writer from s .number call ≡ r .number
   pub put : writer from s .put call ≡ take (r .size) after

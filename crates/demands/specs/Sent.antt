@@ -12,7 +12,7 @@ use lib.Seq.{take-append-le}
 use Rattle.header.specs.declared.Side.{Side}
 use Rattle.header.specs.declared.Side.the-variants.{Guest, Host}
 use Rattle.demands.specs.Demand1.{demand-1}
-use Rattle.demands.specs.Cuts.{of-side, Both, Call, answerTo, next, final, endings, sides, bytesTaken, Played, behind, play, bare, Fits, heldBy, leaves, plays-on, SameResult, cuts}
+use Rattle.demands.specs.Cuts.{of-side, Both, Call, answerTo, next, final, endings, sides, bytesTaken, Played, behind, play, bare, Fits, heldBy, leftBy, plays-on, SameResult, cuts}
 
 -- each side's bytes after a call: without those that it took
 abbrev pub after : Both → Call → (Side → List ℕ) → Side → List ℕ
@@ -49,7 +49,7 @@ sent-is x (c ∷ cs) b q d =
 
 -- a run is what `play` makes of the bytes sent and of its order
 pub plays-sent : (x : Both) (cs : List Call) (b : Side → List ℕ) → Fits x → CutFrom x cs b
-    → play (sides (endings x cs)) (bare (x .session)) (λ d. heldBy x d ++ b d) ≡ behind (endings x cs) (leaves (final x cs) (unread x cs b))
+    → play (sides (endings x cs)) (bare (x .session)) (λ d. heldBy x d ++ b d) ≡ behind (endings x cs) (leftBy (final x cs) (unread x cs b))
 plays-sent x cs b f q =
     (λ i. play (sides (endings x cs)) (bare (x .session)) (λ d. heldBy x d ++ sym (sent-is x cs b q d) i)) ∙ plays-on x cs (unread x cs b) f
 
@@ -67,7 +67,7 @@ pub record SameSent (x : Both) (cs₁ cs₂ : List Call) (b : Side → List ℕ)
 pub cuts-sent : (x : Both) (cs₁ cs₂ : List Call) (b : Side → List ℕ) → Fits x → CutFrom x cs₁ b → CutFrom x cs₂ b
     → sides (endings x cs₁) ≡ sides (endings x cs₂) → SameSent x cs₁ cs₂ b
 cuts-sent x cs₁ cs₂ b f q₁ q₂ o =
-    let e : behind (endings x cs₁) (leaves (final x cs₁) (unread x cs₁ b)) ≡ behind (endings x cs₂) (leaves (final x cs₂) (unread x cs₂ b)) =
+    let e : behind (endings x cs₁) (leftBy (final x cs₁) (unread x cs₁ b)) ≡ behind (endings x cs₂) (leftBy (final x cs₂) (unread x cs₂ b)) =
     sym (plays-sent x cs₁ b f q₁) ∙ (λ i. play (o i) (bare (x .session)) (λ d. heldBy x d ++ b d)) ∙ plays-sent x cs₂ b f q₂ in
     record {
       answers = sym (append-nil (endings x cs₁)) ∙ ap (λ (p : Played). p .ended) e ∙ append-nil (endings x cs₂);

@@ -131,10 +131,11 @@ fn read_body(
     Begun { session, at }
 }
 
-// A hello without capabilities.
+// A hello without capabilities, whose version begins with the bytes 1 to 8.
 fn hello() -> [u8; 80] {
     let mut bytes = [0u8; 80];
     bytes[4] = 68;
+    put(&mut bytes, 12, 8, 578437695752307201);
     bytes
 }
 
@@ -150,10 +151,12 @@ fn endpoint_table() -> [u8; 108] {
     bytes
 }
 
+// The first eight rows have the interface numbers 1 to 8.
 fn interface_table() -> [u8; 144] {
     let mut bytes = [0u8; 144];
     bytes[0] = 4;
     bytes[4] = 132;
+    put(&mut bytes, 16, 8, 578437695752307201);
     bytes
 }
 

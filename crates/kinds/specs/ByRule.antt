@@ -84,13 +84,18 @@ abbrev onEndpoint : List Field → Bool
 onEndpoint [] = false
 onEndpoint (f ∷ fs) = eqt "endpoint" (about (f .rule)) || onEndpoint fs
 
-abbrev idless : Id → Bool
-idless id-any = false
-idless id-zero = true
+-- some field is a stream that a rule is about
+abbrev onStream : List Field → Bool
+onStream [] = false
+onStream (f ∷ fs) = eqt "stream" (about (f .rule)) || onStream fs
+
+abbrev wantsZero : Id → Bool
+wantsZero id-any = false
+wantsZero id-zero = true
 
 pub rules-by-kind : (allInPlace kinds ≡ true)
     -- "Id is 0 in kinds 0, 1, 2, 4, 5, 22, 23, 24."
-    × (those (λ (k : Kind). idless (k .id)) kinds ≡ (0 ∷ 1 ∷ 2 ∷ 4 ∷ 5 ∷ 22 ∷ 23 ∷ 24 ∷ []))
+    × (those (λ (k : Kind). wantsZero (k .id)) kinds ≡ (0 ∷ 1 ∷ 2 ∷ 4 ∷ 5 ∷ 22 ∷ 23 ∷ 24 ∷ []))
     -- "A hello's version has a zero byte."
     × (under holding-zero ≡ (0 ∷ []))
     -- "Speed is 0 to 3 or 255.", in a connect
@@ -115,8 +120,9 @@ pub rules-by-kind : (allInPlace kinds ≡ true)
     × (under nonzero ≡ (18 ∷ 19 ∷ []))
     -- "Stream is 0 in kind 101 without bit 0."
     × (under (zero-without 0) ≡ (101 ∷ []))
+    × (those (λ (k : Kind). onStream (k .fields)) kinds ≡ (101 ∷ []))
 unfolding kinds
-rules-by-kind = (refl, refl, refl, refl, refl, refl, refl, refl, refl, refl, refl, refl, refl, refl)
+rules-by-kind = (refl, refl, refl, refl, refl, refl, refl, refl, refl, refl, refl, refl, refl, refl, refl)
 
 -- a kind needs that bit, and it alone
 abbrev needing : ℕ → Bits → Bool
@@ -228,9 +234,12 @@ larger = 256 ∷ 65536 ∷ 16777216 ∷ 2147483648 ∷ 4294967295 ∷ []
 abbrev keeping : Rule → Side → ℕ → ℕ → List ℕ → List ℕ
 keeping r from caps e xs = allowed (λ (x : ℕ). holds r from caps e (x ∷ []) 0) xs
 
--- the bytes that may be the type of a row
-abbrev types : ℕ → List ℕ
-types row = allowed (λ (x : ℕ). holds endpoint-type Host 0 0 (set (replicate 32 0) row x) row) bytes
+-- the bytes that may be the type of a row, and the rows that may have a type
+abbrev types : ℕ → ℕ → List ℕ
+types caps row = allowed (λ (x : ℕ). holds endpoint-type Host caps 0 (set (replicate 32 0) row x) row) bytes
+
+abbrev rowsOf : ℕ → ℕ → List ℕ
+rowsOf caps x = allowed (λ (row : ℕ). holds endpoint-type Host caps 0 (set (replicate 32 0) row x) row) (0 to 31)
 
 -- "the number in bits 0 to 3 and IN in bit 7"
 abbrev outs : List ℕ
@@ -243,30 +252,41 @@ ins = 128 to 143
 -- A host's status is 0 to 6; a guest's is any byte."; "bits 4 to 6 are zero"; ".. name an IN endpoint. Iso from the guest is OUT,
 -- from the host IN; interrupt data from the guest is OUT."; "bit 7 of requesttype equals the endpoint's"; "Masks aren't 0";
 -- "Stream is 0 .. without bit 0."; "A hello's version has a zero byte."
-pub rule-borders : (keeping speed Host 0 0 bytes ≡ (0 ∷ 1 ∷ 2 ∷ 3 ∷ 255 ∷ []))
-    × (keeping at-most-32 Host 0 0 (bytes ++ larger) ≡ (0 to 32))
-    × (types 1 ≡ (0 ∷ 1 ∷ 2 ∷ 3 ∷ 255 ∷ []))
-    × (types 31 ≡ (0 ∷ 1 ∷ 2 ∷ 3 ∷ 255 ∷ []))
-    × (types 0 ≡ (0 ∷ []))
-    × (types 16 ≡ (0 ∷ []))
-    × (keeping status Host 0 0 bytes ≡ (0 to 6))
-    × (keeping status Guest 0 0 bytes ≡ bytes)
-    × (keeping endpoint Guest 0 0 bytes ≡ (outs ++ ins))
-    × (keeping endpoint Host 0 0 bytes ≡ (outs ++ ins))
-    × (keeping endpoint-in Guest 0 0 bytes ≡ ins)
-    × (keeping endpoint-in Host 0 0 bytes ≡ ins)
-    × (keeping endpoint-onward Guest 0 0 bytes ≡ outs)
-    × (keeping endpoint-onward Host 0 0 bytes ≡ ins)
-    × (keeping endpoint-out-of-guest Guest 0 0 bytes ≡ outs)
-    × (keeping endpoint-out-of-guest Host 0 0 bytes ≡ (outs ++ ins))
-    × (keeping as-endpoint Guest 0 2 bytes ≡ (0 to 127))
-    × (keeping as-endpoint Guest 0 130 bytes ≡ (128 to 255))
-    × (keeping nonzero Guest 0 0 (bytes ++ larger) ≡ ((1 to 255) ++ larger))
-    × (keeping (zero-without 0) Guest 254 0 (bytes ++ larger) ≡ (0 ∷ []))  -- bits 1 to 7, bit 0 not
+abbrev Borders : ℕ → Type 0
+Borders caps =
+    (keeping speed Host caps 0 bytes ≡ (0 ∷ 1 ∷ 2 ∷ 3 ∷ 255 ∷ []))
+    × (keeping at-most-32 Host caps 0 (bytes ++ larger) ≡ (0 to 32))
+    × (types caps 1 ≡ (0 ∷ 1 ∷ 2 ∷ 3 ∷ 255 ∷ []))
+    × (types caps 0 ≡ (0 ∷ []))
+    × (types caps 16 ≡ (0 ∷ []))
+    × (rowsOf caps 2 ≡ ((1 to 15) ++ (17 to 31)))
+    × (keeping status Host caps 0 bytes ≡ (0 to 6))
+    × (keeping status Guest caps 0 bytes ≡ bytes)
+    × (keeping endpoint Guest caps 0 bytes ≡ (outs ++ ins))
+    × (keeping endpoint Host caps 0 bytes ≡ (outs ++ ins))
+    × (keeping endpoint-in Guest caps 0 bytes ≡ ins)
+    × (keeping endpoint-in Host caps 0 bytes ≡ ins)
+    × (keeping endpoint-onward Guest caps 0 bytes ≡ outs)
+    × (keeping endpoint-onward Host caps 0 bytes ≡ ins)
+    × (keeping endpoint-out-of-guest Guest caps 0 bytes ≡ outs)
+    × (keeping endpoint-out-of-guest Host caps 0 bytes ≡ (outs ++ ins))
+    × (keeping as-endpoint Guest caps 2 bytes ≡ (0 to 127))
+    × (keeping as-endpoint Host caps 130 bytes ≡ (128 to 255))
+    × (keeping nonzero Guest caps 0 (bytes ++ larger) ≡ ((1 to 255) ++ larger))
+    × (holds holding-zero Guest caps 0 (set (replicate 64 1) 63 0) 0 ≡ true)
+    × (holds holding-zero Guest caps 0 (replicate 64 1) 0 ≡ false)
+    × (holds holding-zero Host caps 0 (replicate 64 1) 0 ≡ false)
+
+-- with nothing shared and with everything; "Stream is 0 .. without bit 0", with bits 1 to 7 and with bit 0
+pub rule-borders : Borders 0 × Borders 255
+    × (keeping (zero-without 0) Guest 254 0 (bytes ++ larger) ≡ (0 ∷ []))
     × (keeping (zero-without 0) Guest 1 0 (bytes ++ larger) ≡ (bytes ++ larger))
-    × (holds holding-zero Guest 0 0 (set (replicate 64 1) 63 0) 0 ≡ true)
-    × (holds holding-zero Guest 0 0 (replicate 64 1) 0 ≡ false)
-rule-borders = (refl, refl, refl, refl, refl, refl, refl, refl, refl, refl, refl, refl, refl, refl, refl, refl, refl, refl, refl, refl, refl, refl, refl)
+rule-borders = (
+  (refl, refl, refl, refl, refl, refl, refl, refl, refl, refl, refl, refl, refl, refl, refl, refl, refl, refl, refl, refl, refl, refl),
+  (refl, refl, refl, refl, refl, refl, refl, refl, refl, refl, refl, refl, refl, refl, refl, refl, refl, refl, refl, refl, refl, refl),
+  refl,
+  refl,
+)
 
 -- ---- what may follow the fields
 
