@@ -1,23 +1,10 @@
-//! Links the proved gate, `libdrive.a`, as `rt staticlib drive` puts it under `target/staticlib`, and, with the feature `parser`, the
-//! host of libusbredirparser.
+//! With the feature `parser`, links the host of libusbredirparser.
 
 use std::env;
-use std::path::{Path, PathBuf};
+use std::path::PathBuf;
 use std::process::Command;
 
 fn main() {
-    let manifest = env::var_os("CARGO_MANIFEST_DIR").expect("set by cargo");
-    let libraries = match env::var_os("DRIVE_DIR") {
-        Some(directory) => PathBuf::from(directory),
-        None => Path::new(&manifest).join("../target/staticlib"),
-    };
-    println!("cargo:rerun-if-env-changed=DRIVE_DIR");
-    println!(
-        "cargo:rerun-if-changed={}",
-        libraries.join("libdrive.a").display()
-    );
-    println!("cargo:rustc-link-search=native={}", libraries.display());
-    println!("cargo:rustc-link-lib=static=drive");
     if env::var_os("CARGO_FEATURE_PARSER").is_some() {
         link_parser();
     }

@@ -1,24 +1,9 @@
 //! The three that judge the traffic: the proved gate, the plain one, and libusbredirparser.
 
+use library::RECORD;
 use plain::{offer, Place, Session, Side, HOLD_SIZE};
 
 use crate::traffic::Traffic;
-
-/// Bytes that are written for each reader call.
-pub const RECORD: usize = 26;
-
-extern "C" {
-    fn drive(
-        script: *const u8,
-        script_size: usize,
-        guest: *mut u8,
-        guest_size: usize,
-        host: *mut u8,
-        host_size: usize,
-        out: *mut u8,
-        out_size: usize,
-    ) -> usize;
-}
 
 /// Reader calls in a row: for each the sender, the size of the piece in four bytes, and the piece. A piece that is not used up is
 /// offered again from the first byte that was not taken.
@@ -66,19 +51,7 @@ pub fn script_of(traffic: &Traffic) -> Script {
 /// The proved gate, by its static library.
 pub fn by_gate(script: &Script, holds: &mut [Vec<u8>; 2], out: &mut [u8]) -> usize {
     let [guest, host] = holds;
-    // SAFETY: each pointer comes with the size of the slice that it is taken from, and those that are written are borrowed alone.
-    unsafe {
-        drive(
-            script.bytes.as_ptr(),
-            script.bytes.len(),
-            guest.as_mut_ptr(),
-            guest.len(),
-            host.as_mut_ptr(),
-            host.len(),
-            out.as_mut_ptr(),
-            out.len(),
-        )
-    }
+    library::run(&script.bytes, guest, host, out)
 }
 
 /// The plain gate: the same calls, the same records.

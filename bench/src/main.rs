@@ -1,7 +1,7 @@
 //! The proved gate beside a plain one and libusbredirparser, in one run on one machine.
 //!
-//! `bench [DIVISOR [INDEX]]`: with a divisor there is so much less traffic, with an index only that one, counted from 0. Prints a line for each traffic and judge: the best time of some
-//! rounds, GB/s, packets/s, and the time as a multiple of the plain gate's. The last line is `N passed, M failed`: the gate and the
+//! `bench [DIVISOR [INDEX]]`: with a divisor there is so much less traffic, with an index only that
+//! one, counted from 0. Prints a line for each traffic and judge: the best time of some rounds, GB/s, packets/s, and the time as a multiple of the plain gate's. The last line is `N passed, M failed`: the gate and the
 //! plain gate told the same of every call and left the same buffers.
 
 mod judges;
@@ -12,9 +12,10 @@ use std::path::Path;
 use std::process::ExitCode;
 use std::time::{Duration, Instant};
 
+use library::RECORD;
 use plain::HOLD_SIZE;
 
-use judges::{by_gate, by_plain, script_of, Script, RECORD};
+use judges::{by_gate, by_plain, script_of, Script};
 use traffic::{bulk_transfers, capture, interrupts, Traffic};
 
 const ROUNDS: usize = 5;

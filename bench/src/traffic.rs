@@ -32,7 +32,7 @@ fn packet(kind: u32, id: u64, fields: &[u8], data: &[u8]) -> Vec<u8> {
     bytes
 }
 
-/// A control row where there is no other: endpoint 1 IN interrupt, 2 OUT and 2 IN bulk.
+/// Both hellos, and a device with the endpoints 1 IN interrupt, 2 OUT and 2 IN bulk.
 fn introduction() -> Vec<(Side, Vec<u8>)> {
     let mut hello = vec![0; 64];
     hello.extend(WORD.to_le_bytes());
@@ -134,21 +134,7 @@ pub fn interrupts(packets: usize) -> Traffic {
 /// A capture in report lines, so many times.
 pub fn capture(path: &Path, times: usize) -> Traffic {
     let text = std::fs::read_to_string(path).expect("a capture");
-    let pieces = text.lines().map(|line| {
-        let (from, digits) = match line.strip_prefix("from=guest bytes=") {
-            Some(digits) => (Side::Guest, digits),
-            None => (
-                Side::Host,
-                line.strip_prefix("from=host bytes=")
-                    .expect("a report line"),
-            ),
-        };
-        let byte = |at: usize| u8::from_str_radix(&digits[at..at + 2], 16).expect("hex digits");
-        Piece {
-            from,
-            bytes: (0..digits.len()).step_by(2).map(byte).collect(),
-        }
-    });
+    let pieces = library::pieces(&text).map(|(from, bytes)| Piece { from, bytes });
     let name = path
         .file_stem()
         .expect("a name")

@@ -4,7 +4,7 @@ use std::collections::BTreeMap;
 use std::fs;
 use std::path::{Path, PathBuf};
 
-use plain::{Side, HOLD_SIZE};
+use plain::HOLD_SIZE;
 
 use crate::script::{Item, Line, Script};
 
@@ -36,19 +36,7 @@ pub fn script(capture: &Path) -> (Script, bool) {
         items: Vec::new(),
     };
     let mut line = Line::new(&script);
-    for words in text.lines() {
-        let (from, digits) = match words.strip_prefix("from=guest bytes=") {
-            Some(digits) => (Side::Guest, digits),
-            None => (
-                Side::Host,
-                words
-                    .strip_prefix("from=host bytes=")
-                    .expect("a report line"),
-            ),
-        };
-        let bytes: Vec<u8> = (0..digits.len() / 2)
-            .map(|at| u8::from_str_radix(&digits[2 * at..2 * at + 2], 16).expect("hex digits"))
-            .collect();
+    for (from, bytes) in library::pieces(&text) {
         let mut rest = bytes.as_slice();
         while !rest.is_empty() {
             let call = line.call(from, rest);

@@ -2,39 +2,7 @@
 
 use crate::script::{difference, Call, Outcome, Script};
 
-extern "C" {
-    fn drive(
-        script: *const u8,
-        script_size: usize,
-        guest: *mut u8,
-        guest_size: usize,
-        host: *mut u8,
-        host_size: usize,
-        out: *mut u8,
-        out_size: usize,
-    ) -> usize;
-}
-
-/// Bytes that the library writes for each call.
-pub const RECORD: usize = 26;
-
-/// Runs a script's bytes; tells how many calls were made.
-pub fn run(script: &[u8], guest: &mut [u8], host: &mut [u8], out: &mut [u8]) -> usize {
-    // SAFETY: each pointer comes with the size of the slice it is taken from, and the slices that
-    // are written are borrowed alone.
-    unsafe {
-        drive(
-            script.as_ptr(),
-            script.len(),
-            guest.as_mut_ptr(),
-            guest.len(),
-            host.as_mut_ptr(),
-            host.len(),
-            out.as_mut_ptr(),
-            out.len(),
-        )
-    }
-}
+pub use library::{run, RECORD};
 
 pub fn by_drive(script: &Script) -> Outcome {
     let (mut guest, mut host) = script.buffers();

@@ -1,0 +1,53 @@
+//! The proved gate as a Rust function, and captures as pieces: what the tests of the gate and the benchmark share.
+
+use plain::Side;
+
+extern "C" {
+    fn drive(
+        script: *const u8,
+        script_size: usize,
+        guest: *mut u8,
+        guest_size: usize,
+        host: *mut u8,
+        host_size: usize,
+        out: *mut u8,
+        out_size: usize,
+    ) -> usize;
+}
+
+/// Bytes that the library writes for each call.
+pub const RECORD: usize = 26;
+
+/// Runs a script's bytes; tells how many calls were made.
+pub fn run(script: &[u8], guest: &mut [u8], host: &mut [u8], out: &mut [u8]) -> usize {
+    // SAFETY: each pointer comes with the size of the slice it is taken from, and the slices that
+    // are written are borrowed alone.
+    unsafe {
+        drive(
+            script.as_ptr(),
+            script.len(),
+            guest.as_mut_ptr(),
+            guest.len(),
+            host.as_mut_ptr(),
+            host.len(),
+            out.as_mut_ptr(),
+            out.len(),
+        )
+    }
+}
+
+/// The pieces of a capture in report lines.
+pub fn pieces(text: &str) -> impl Iterator<Item = (Side, Vec<u8>)> + '_ {
+    text.lines().map(|line| {
+        let (from, digits) = match line.strip_prefix("from=guest bytes=") {
+            Some(digits) => (Side::Guest, digits),
+            None => (
+                Side::Host,
+                line.strip_prefix("from=host bytes=")
+                    .expect("a report line"),
+            ),
+        };
+        let byte = |at| u8::from_str_radix(&digits[at..at + 2], 16).expect("hex digits");
+        (from, (0..digits.len()).step_by(2).map(byte).collect())
+    })
+}
