@@ -1,5 +1,6 @@
-// Runs the writer, and what the reader lends, on the marked examples and at the numbers that a report never shows. Each line is a call: its
-// number and, where there are any, the bytes that it put out or lent, in hex digits. What it prints is compared with the file stdout.
+// Runs the writer, and what the reader lends, on the marked examples and at the numbers that a report never shows. A writer call is a line, its
+// number and the bytes that it put out; a reader call is two, its number with the data and with the body that it lends. All are in hex digits.
+// What it prints is compared with the file stdout.
 use endpoint::Endpoint;
 use gate::Answer;
 use gate::body_of;
@@ -50,25 +51,16 @@ fn add_line(text: &mut [u8; 2048], at: usize, number: u8, s: &[u8]) -> usize {
     add_byte(text, end, 10)
 }
 
-// A reader call's number with the data that it lends, and with the body.
-fn add_data<'a>(
+// A reader call's number with the data that it lends, and again with the body.
+fn add_answer<'a>(
     text: &mut [u8; 2048],
     at: usize,
     a: Answer,
     piece: &'a [u8],
     hold: &'a [u8],
 ) -> usize {
-    add_line(text, at, a.number, data_of(a, piece, hold))
-}
-
-fn add_body<'a>(
-    text: &mut [u8; 2048],
-    at: usize,
-    a: Answer,
-    piece: &'a [u8],
-    hold: &'a [u8],
-) -> usize {
-    add_line(text, at, a.number, body_of(a, piece, hold))
+    let next = add_line(text, at, a.number, data_of(a, piece, hold));
+    add_line(text, next, a.number, body_of(a, piece, hold))
 }
 
 // A writer call with 40 bytes of output: its number, and the bytes that it put out.
@@ -103,7 +95,7 @@ struct Begun {
     at: usize,
 }
 
-// A reader call is made, and its number and data are added.
+// A reader call is made, and its answer is added.
 fn read(
     text: &mut [u8; 2048],
     b: Begun,
@@ -112,21 +104,7 @@ fn read(
     piece: &[u8],
 ) -> Begun {
     let o = offer(b.session, from, hold, piece);
-    let at = add_data(text, b.at, o.answer, piece, hold);
-    let session = o.session;
-    Begun { session, at }
-}
-
-// The same with the packet's body.
-fn read_body(
-    text: &mut [u8; 2048],
-    b: Begun,
-    from: Side,
-    hold: &mut [u8; 32784],
-    piece: &[u8],
-) -> Begun {
-    let o = offer(b.session, from, hold, piece);
-    let at = add_body(text, b.at, o.answer, piece, hold);
+    let at = add_answer(text, b.at, o.answer, piece, hold);
     let session = o.session;
     Begun { session, at }
 }
@@ -173,7 +151,7 @@ fn begin(text: &mut [u8; 2048], guest: &mut [u8; 32784], host: &mut [u8; 32784])
     let start = Begun { session, at: 0 };
     let a = read(text, start, Side::Guest, guest, &hello());
     let b = read(text, a, Side::Host, host, &hello());
-    let c = read_body(text, b, Side::Host, host, &endpoint_table());
+    let c = read(text, b, Side::Host, host, &endpoint_table());
     let d = read(text, c, Side::Host, host, &interface_table());
     read(text, d, Side::Host, host, &connect())
 }
@@ -196,6 +174,30 @@ fn write_marked(text: &mut [u8; 2048], b: Begun) -> Begun {
     Begun { session, at }
 }
 
+// Bulk OUT, endpoint 2, id 9, data AA BB.
+fn m3() -> [u8; 22] {
+    let mut bytes = [0u8; 22];
+    bytes[0] = 101;
+    bytes[4] = 10;
+    bytes[8] = 9;
+    bytes[12] = 2;
+    bytes[14] = 2;
+    bytes[20] = 170;
+    bytes[21] = 187;
+    bytes
+}
+
+// Its reply.
+fn m4() -> [u8; 20] {
+    let mut bytes = [0u8; 20];
+    bytes[0] = 101;
+    bytes[4] = 8;
+    bytes[8] = 9;
+    bytes[12] = 2;
+    bytes[14] = 2;
+    bytes
+}
+
 // M3 is offered in two pieces, so that its data is lent from the buffer; then M4, and M4 again.
 fn exchange(
     text: &mut [u8; 2048],
@@ -203,56 +205,11 @@ fn exchange(
     guest: &mut [u8; 32784],
     host: &mut [u8; 32784],
 ) -> Begun {
-    let m3 = [
-        101u8,
-        0,
-        0,
-        0,
-        10,
-        0,
-        0,
-        0,
-        9,
-        0,
-        0,
-        0,
-        2,
-        0,
-        2,
-        0,
-        0,
-        0,
-        0,
-        0,
-        170,
-        187,
-    ];
-    let m4 = [
-        101u8,
-        0,
-        0,
-        0,
-        8,
-        0,
-        0,
-        0,
-        9,
-        0,
-        0,
-        0,
-        2,
-        0,
-        2,
-        0,
-        0,
-        0,
-        0,
-        0,
-    ];
-    let c = read(text, b, Side::Guest, guest, part(&m3, 0, 15));
-    let d = read(text, c, Side::Guest, guest, part(&m3, 15, 22));
-    let e = read(text, d, Side::Host, host, &m4);
-    read(text, e, Side::Host, host, &m4)
+    let request = m3();
+    let c = read(text, b, Side::Guest, guest, part(&request, 0, 15));
+    let d = read(text, c, Side::Guest, guest, part(&request, 15, 22));
+    let e = read(text, d, Side::Host, host, &m4());
+    read(text, e, Side::Host, host, &m4())
 }
 
 fn with_held(s: Session, held: Held) -> Session {
