@@ -1,7 +1,7 @@
 //! The three that judge the traffic: the proved gate, the plain one, and libusbredirparser.
 
-use library::RECORD;
-use plain::{offer, Place, Session, Side, HOLD_SIZE};
+use library::{record_of, RECORD};
+use plain::{offer, Session, Side, HOLD_SIZE};
 
 use crate::traffic::Traffic;
 
@@ -75,21 +75,7 @@ pub fn by_plain(script: &Script, holds: &mut [Vec<u8>; 2], out: &mut [u8]) -> us
             &mut holds[from as usize],
             &rest[5..5 + size],
         );
-        let (start, end, id) = match &answer.handed {
-            Some(handed) => (handed.data.start as u32, handed.data.end as u32, handed.id),
-            None => (0, 0, 0),
-        };
-        record[0] = answer.number;
-        record[1] = match answer.place {
-            Place::Nowhere => 0,
-            Place::Piece => 1,
-            Place::Buffer => 2,
-        };
-        record[2..6].copy_from_slice(&(answer.taken as u32).to_le_bytes());
-        record[6..10].copy_from_slice(&(answer.size as u32).to_le_bytes());
-        record[10..14].copy_from_slice(&start.to_le_bytes());
-        record[14..18].copy_from_slice(&end.to_le_bytes());
-        record[18..26].copy_from_slice(&id.to_le_bytes());
+        record.copy_from_slice(&record_of(&answer));
         rest = &rest[5 + size..];
         calls += 1;
     }

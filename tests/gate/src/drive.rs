@@ -8,21 +8,8 @@ pub fn by_drive(script: &Script) -> Outcome {
     let (mut guest, mut host) = script.buffers();
     let mut out = vec![0; script.items.len() * RECORD];
     let made = run(&script.bytes(), &mut guest, &mut host, &mut out);
-    let calls = out.chunks(RECORD).take(made).map(record).collect();
+    let calls = out.chunks(RECORD).take(made).map(Call::read).collect();
     Outcome { calls, guest, host }
-}
-
-fn record(bytes: &[u8]) -> Call {
-    let u32_at = |at: usize| u32::from_le_bytes(bytes[at..at + 4].try_into().expect("4 bytes"));
-    Call {
-        number: bytes[0],
-        place: bytes[1],
-        taken: u32_at(2),
-        size: u32_at(6),
-        start: u32_at(10),
-        end: u32_at(14),
-        id: u64::from_le_bytes(bytes[18..26].try_into().expect("8 bytes")),
-    }
 }
 
 /// Runs a script through both. Where they differ: in what, with a script that shows it and is as

@@ -1,6 +1,7 @@
 //! Scripts of reader calls, and what came of them.
 
-use plain::{offer, Place, Session, Side};
+use library::record_of;
+use plain::{offer, Session, Side};
 
 use crate::rng::Rng;
 
@@ -119,23 +120,7 @@ impl Line {
             Side::Host => &mut self.host,
         };
         let answer = offer(&mut self.session, from, hold, piece);
-        let (start, end, id) = match &answer.handed {
-            Some(handed) => (handed.data.start as u32, handed.data.end as u32, handed.id),
-            None => (0, 0, 0),
-        };
-        let call = Call {
-            number: answer.number,
-            place: match answer.place {
-                Place::Nowhere => 0,
-                Place::Piece => 1,
-                Place::Buffer => 2,
-            },
-            taken: answer.taken as u32,
-            size: answer.size as u32,
-            start,
-            end,
-            id,
-        };
+        let call = Call::read(&record_of(&answer));
         self.calls.push(call);
         call
     }
@@ -164,6 +149,20 @@ impl Line {
 }
 
 impl Call {
+    /// What a record says.
+    pub fn read(bytes: &[u8]) -> Call {
+        let u32_at = |at: usize| u32::from_le_bytes(bytes[at..at + 4].try_into().expect("4 bytes"));
+        Call {
+            number: bytes[0],
+            place: bytes[1],
+            taken: u32_at(2),
+            size: u32_at(6),
+            start: u32_at(10),
+            end: u32_at(14),
+            id: u64::from_le_bytes(bytes[18..26].try_into().expect("8 bytes")),
+        }
+    }
+
     /// Whether the call told of a packet or of a refused header.
     pub fn tells(&self) -> bool {
         !matches!(self.number, 1 | 2 | 3 | 41 | 43)

@@ -1,6 +1,6 @@
 //! The proved gate as a Rust function, and captures as pieces: what the tests of the gate and the benchmark share.
 
-use plain::Side;
+use plain::{Answer, Place, Side};
 
 extern "C" {
     fn drive(
@@ -34,6 +34,28 @@ pub fn run(script: &[u8], guest: &mut [u8], host: &mut [u8], out: &mut [u8]) -> 
             out.len(),
         )
     }
+}
+
+/// The record of a call of the plain gate, as the library writes one: number, place, taken, size, where
+/// the data starts and ends among the packet's bytes, id.
+pub fn record_of(answer: &Answer) -> [u8; RECORD] {
+    let (start, end, id) = match &answer.handed {
+        Some(handed) => (handed.data.start as u32, handed.data.end as u32, handed.id),
+        None => (0, 0, 0),
+    };
+    let mut record = [0; RECORD];
+    record[0] = answer.number;
+    record[1] = match answer.place {
+        Place::Nowhere => 0,
+        Place::Piece => 1,
+        Place::Buffer => 2,
+    };
+    record[2..6].copy_from_slice(&(answer.taken as u32).to_le_bytes());
+    record[6..10].copy_from_slice(&(answer.size as u32).to_le_bytes());
+    record[10..14].copy_from_slice(&start.to_le_bytes());
+    record[14..18].copy_from_slice(&end.to_le_bytes());
+    record[18..26].copy_from_slice(&id.to_le_bytes());
+    record
 }
 
 /// The pieces of a capture in report lines.
