@@ -1,4 +1,7 @@
--- What one turn of a loop does to a prefix, to digits and to a decimal; and the parts of a line, laid behind one another.
+-- What the proofs of this crate's functions cite: what one turn of a loop does to a prefix, to digits, to the bytes that they spell and to a
+-- decimal; what each branch of `decode_line` has decoded; and that a part of a line laid behind another is one part with it (`adds-then`).
+-- A turn is stated of the rest of a list, from i on: `drop-cons` splits its first element off, and the definition computes one step. Of a decimal
+-- `Making` says that the digits made, with those of n / 10 in front, are all, and that n has at most i + 1 digits: so 20 places are enough.
 -- Assumes nothing.
 use mathlib.Core.Path.{_≡_, refl, sym, ap, _∙_}
 use mathlib.Core.Bool.{Bool, true, false, cond, and-false}

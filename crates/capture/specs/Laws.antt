@@ -1,4 +1,8 @@
--- What a line can be, for those who call the functions: how long, and what was offered by what was told.
+-- What a line can be, for those who call the functions: how long (`line-short`, `answer-short`, `totals-short`), and what was offered by what was
+-- told (`told-bad`, `told-piece`).
+-- Two digits spell a byte (`length-spelt`), and a good line has at most 4,096 of them; a number has at most 20 digits, by induction over their
+-- count, and the lengths of a line's parts are added up. What is told is bad exactly where nothing is offered; and with room for 2,048 bytes,
+-- what was laid is the output's front.
 -- Assumes nothing.
 use Prim.Native.Nat.{ℕ, zero, suc, _+_, _/_, _%_, _≤_}
 use mathlib.Core.Path.{_≡_, refl, sym, ap, _∙_}

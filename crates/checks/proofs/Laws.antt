@@ -1,4 +1,7 @@
--- What a match and the number come to in each case, in the values that the code has.
+-- What a match and the number come to in each case, in the values that the code has: a packet that is no reply has no match (`no-reply`), a reply
+-- has that of the place which the search found (`reply-found`) or none (`reply-alone`); a check that holds gives its number, any other leaves it
+-- to those behind it (`held`, `missed`).
+-- Each computes from `matchOf`, or from a `cond`, once the equations are put in that the code's calls and branches give.
 -- Assumes nothing.
 use Prim.Native.Nat.{ℕ}
 use mathlib.Core.Path.{_≡_, ap, _∙_}

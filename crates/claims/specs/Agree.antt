@@ -1,4 +1,8 @@
--- The table of meanings says of each kind what document 01's lists say of it.
+-- The table of meanings says of each kind what document 01's lists say of it: all that the checks go by is the same of a packet's event and of
+-- its kind's number (`agrees`).
+-- A line for each kind and each end that may send it, by computation, whatever its id and fields (`every-kind`); the host's interrupt packets
+-- also go by their direction. What holds for every kind of the table holds for the one that is found by its number, by induction over the table
+-- (`found-kind`).
 -- Assumes nothing.
 use Prim.Native.Nat.{ℕ}
 use mathlib.Core.Bool.{Bool, true, false, cond, not, _&&_, _||_, false≢true}
@@ -43,6 +47,7 @@ pub record Facts : Type 0 where
   pub unsolicited : Bool
   pub kept : Request
 
+-- of an event, by its class
 abbrev pub factsOf : Event → Facts
 factsOf e =
     record {
@@ -80,6 +85,7 @@ answersBy p q = eqb (q .id) (p .id) && answersKind (p .kind) (q .kind) && (not (
 abbrev pub answeredAt : Requests → Content → Option ℕ
 answeredAt t p = firstAt (λ (q : Place). q .live && answersBy p (q .request)) 0 (t .places)
 
+-- of a packet, by its kind's number
 abbrev pub factsBy : Side → Content → Facts
 factsBy from p =
     record {
@@ -145,6 +151,7 @@ interrupt-agrees : Agree Host 103
 unfolding meaningOf eventOf meanings layout kinds
 interrupt-agrees id vs rest = cases (inwardOf (packetOf 103 id vs rest)) (λ t. rw t) (λ t. rw t)
 
+-- a line for each kind, by computation
 every-kind : Every Agree kinds
 unfolding meaningOf eventOf meanings layout kinds
 every-kind =

@@ -1,8 +1,8 @@
--- A request and its reply, of packets that came out of the wire checks:
--- a packet passes exactly when it is allowed (`allowed-exactly`); a request that passes takes the lowest free place (`request-keeps`); a
--- reply passes exactly when a live request matches it and asked for at least its length, or it is unsolicited (`reply-passes`); it
--- consumes that one request (`reply-consumes`), after which none with its id waits (`answered-absent`); where none waits, it is refused
--- and frees nothing (`late`).
+-- A packet out of the wire checks passes exactly when it is allowed (`allowed-exactly`). A request that passes takes the lowest free place
+-- (`request-keeps`). With a device, a reply passes exactly when a live request matches it and asked for at least its length, or it is unsolicited
+-- (`reply-passes`); it consumes that one request (`reply-consumes`), and none with its id waits then (`answered-absent`); where none waits, it is
+-- refused, if not unsolicited, and frees nothing (`late`). `agrees` takes the laws of `Steps.antt` and `Passes.antt`, which speak of events, to
+-- kind numbers; what ends with a 9 is of its interface, since only an 11 answers it, and names that (`same-interface`).
 -- Assumes nothing.
 use Prim.Native.Nat.{ℕ, _≤_, _<_}
 use mathlib.Core.Bool.{Bool, true, false, cond, not, _&&_, false≢true}
@@ -88,6 +88,7 @@ pub record LateReply (s : Session) (from : Side) (p : Content) : Type 0 where
 either : (kind n : ℕ) (a b : ℕ → Bool) → cond (eqb kind n) a b 9 ≡ true → a 9 ≡ false → (eqb kind n ≡ false) × (b 9 ≡ true)
 either kind n a b h f = cases (eqb kind n) (λ e. absurd (false≢true (sym f ∙ (rw e at h)))) (λ e. (e, rw e at h))
 
+-- of the kinds that answer a 9, in the order in which they are asked: no other than 11 does, but the 9 itself, which is no reply
 alt-reply : (from : Side) (kind : ℕ) (inward : Bool) → isReply from kind inward ≡ true → answersKind kind 9 ≡ true → kind ≡ 11
 alt-reply from kind inward r h =
     cases (eqb kind 11) (λ e. eqb-true kind 11 e) (λ e. absurd (other e))
@@ -148,6 +149,7 @@ module _ (s : Session) (from : Side) (p : Content) (w : wireNumber (linkOf from 
     unfolding numberOf
     reply-passes u h = (λ z. allowed-exactly u .0 z .reply r, zero-number)
       where
+        -- 33 and 34 do not hold by what is given, and with a device there the others ask nothing of a host's reply
         zero-number : ((i : ℕ) × Answers (s .requests) p i × (countOf p ≤ placeAt (s .requests) i .request .length)) ⊎ Unsolicited (s .requests) p → judged s e .number ≡ 0
         zero-number x =
             let f = reply-from s from p agreed u (λ k. x) in
@@ -230,6 +232,7 @@ module _ (s : Session) (from : Side) (p : Content) (w : wireNumber (linkOf from 
     unfolding eventOf
     reply-consumes u z = go (lowest (s .requests) query) refl
       where
+        -- the request at the place that was found is the one; no other has its id, and what ends with it is as document 01 says
         handed : (i : ℕ) → Freed s e i (placeAt (s .requests) i .request) → Consumes s p (judged s e .session) i
         handed i f =
             let a = answers-to s from p agreed r i (f .within) (and-whole (placeAt (s .requests) i .live) _ (f .live) (f .answered)) in

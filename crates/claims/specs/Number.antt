@@ -1,5 +1,7 @@
--- The number of a packet, by kind numbers: the first of document 01's sentences that refuses it, in the order of their numbers but for 27
--- before 26. `number-by` shows that the judge gives this number.
+-- The number of a packet, by kind numbers: the first of document 01's sentences that refuses it, in the order of their numbers but for 27 before
+-- 26. `number-by` shows that the judge gives this number.
+-- Check by check both lists hold the same test, since what the checks go by is the same (`agrees`). 30 asks for the row only of a packet that
+-- comes on a stream; 33 and 34 are split by whether it is a reply, and of a reply both search for the same request (`found-by`).
 -- Assumes nothing.
 use Prim.Native.Nat.{ℕ}
 use mathlib.Core.Bool.{Bool, true, false, not, _&&_}
@@ -33,6 +35,7 @@ abbrev pub longerThan : Requests → Content → Option ℕ → Bool
 longerThan t p none = false
 longerThan t p (some i) = ltb (placeAt t i .request .length) (countOf p)
 
+-- each sentence with its number, in the order in which they are asked
 unfoldable pub checksBy : Session → Side → Content → List Check
 checksBy s from p =
     25 when (not (among (0 ∷ 1 ∷ 4 ∷ 5 ∷ 22 ∷ 23 ∷ 24 ∷ []) (p .kind)) && not (s .device .present))
@@ -111,6 +114,7 @@ module _ (s : Session) (from : Side) (p : Content) (a : factsOf (eventOf from p)
           let m : matchOf t e ≡ Unmatched = rw n in
           ap (tooLong e) m ∙ sym (ap (λ (b : Bool). b && longerThan t p (answeredAt t p)) r)
 
+  -- check by check, the judge's list is this one
   all-by : numberOf (s .device) (s .requests) e ≡ firstOf (checksBy s from p)
   unfolding numberOf numberFor checksBy eventOf
   all-by k =

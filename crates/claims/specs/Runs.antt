@@ -1,6 +1,8 @@
--- Packets one after the other, each out of the wire checks of the session as it then is: what 43 tests of a session holds throughout
--- (`run-sound`), and once the request that waited under an id was answered or ended, a reply with that id is refused until a request
--- takes the id again (`never-another`).
+-- Packets one after the other, each out of the wire checks of the session as it then is: what 43 tests of a session, but for the held counts,
+-- holds throughout (`run-sound`), and once the request that waited under an id was answered or ended, a reply with that id, but for an
+-- unsolicited status, is refused until a request takes the id again (`never-another`).
+-- By induction over the packets, from what one of them keeps (`Kept.antt`) and from `absent-kept`: only a request takes an id. With
+-- `ended-absent` no request waits under it when the reply comes, and `late` says the rest.
 -- Assumes nothing.
 use Prim.Native.Nat.{ℕ}
 use mathlib.Core.Bool.{true, false}

@@ -1,4 +1,7 @@
--- What a reading tells, step by step: a body of a known kind, then the bytes of one packet.
+-- What a reading tells, step by step: a body of a known kind (`kind-refused`, `packet-refused`, `packet-passed`), then the bytes of one packet,
+-- in the code's order (`short-refused`, `header-refused`, `length-refused`, `kind-unknown`, `kind-known`).
+-- What is to be told is a number, and something handed on where that is 0. So a refusal owes its number alone (`not-handed`), and a packet that
+-- passed also that it says what `decode` says (`is-handed`). The steps decide the tests of `readNumber` one after the other.
 -- Assumes nothing.
 use mathlib.Core.Path.{_≡_, refl, sym, ap, _∙_}
 use mathlib.Core.Bool.{Bool, true, false, cond}

@@ -1,4 +1,7 @@
--- The number of a body that lacks a field, or has bytes behind its fields where its kind has no part.
+-- The number of a body that lacks a field, or has bytes behind its fields where its kind has no part, is `misfitNumber` (`misfits`), and never 0
+-- (`misfit-refused`); any other body fits (`fits`).
+-- In either case `sizeOk` fails (`too-short`, `too-long`), so that only 21 and 22 can come before 23, and what is behind it is not asked. What is
+-- read off the wire has no field that is not shared, by induction over the fields (`none-surplus`): 22 is left for the kind's bit and the id.
 -- Assumes nothing.
 use mathlib.Core.Path.{_≡_, refl, sym, ap, _∙_}
 use mathlib.Core.Bool.{Bool, true, false, cond, not, _&&_, _||_, or-false, false≢true}
@@ -68,6 +71,7 @@ module _ (l : Link) (slot id : ℕ) (body : List ℕ) (small : slot < 33) (fits 
       ∙ (λ i. inOrder (not (sends (k .sender) (l .sender))) (n || s i || w i) (not (e i)) (not (isNone (bad (l .sender) caps k q))) (streamsAlone (k .tail) (q .rest)))
       ∙ (λ i. inOrder (not (sends (k .sender) (l .sender))) (or-false n i || v) true false false)
 
+  -- a body that is shorter than its fields lacks one of them
   too-short : length body < size (shared (sharedSet l)) (kindAt slot .fields)
       → sizeOk (l .sender) (kindAt slot) (contentAt (sharedSet l) (kindAt slot .number) id body) ≡ false
   unfolding contentAt layout
@@ -80,6 +84,7 @@ module _ (l : Link) (slot id : ℕ) (body : List ℕ) (small : slot < 33) (fits 
       (λ i. complete (k .fields) (split (shared caps) (f i) body)) ∙ complete-split (shared caps) (k .fields) body ∙ lt-leb (size (shared caps) (k .fields)) (length body) h in
       λ i. c i && tailOk (k .tail) (l .sender) (k .fields) (q .fields) (length (q .rest))
 
+  -- a body that is longer has bytes behind its fields, where its kind has none
   too-long : carries (kindAt slot) ≡ false → size (shared (sharedSet l)) (kindAt slot .fields) < length body
       → sizeOk (l .sender) (kindAt slot) (contentAt (sharedSet l) (kindAt slot .number) id body) ≡ false
   unfolding contentAt layout
@@ -116,6 +121,7 @@ misfit-refused l slot id e =
 
 -- ---- a body that fits
 
+-- neither holds: all fields are there, and nothing behind them where the kind has no part
 pub fits : (caps slot : ℕ) (body : List ℕ) → slot < 33
     → (ltb (length body) (size (shared caps) (kindAt slot .fields)) || (not (carries (kindAt slot)) && ltb (size (shared caps) (kindAt slot .fields)) (length body))) ≡ false
     → Fits caps slot body

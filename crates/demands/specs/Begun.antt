@@ -1,6 +1,8 @@
--- 43 is "session not one the gate can leave": from a session at its start, with two holding buffers that 41 allows, no list of reader calls meets 41
--- or 43 (`never-refused`). What 43 tests holds at the start and is kept by every call, hellos among them. So demand 3 starts from every session
--- that the gate leads to (`begun-starts`).
+-- 43 is "session not one the gate can leave": from a session at its start, with two holding buffers that 41 allows, no list of reader calls meets
+-- 41 or 43 (`never-refused`). So demand 3 starts from every session that the gate leads to (`begun-starts`).
+-- What 41 and 43 ask (`Left`) holds at the start and is kept by each way of a call, by induction over the calls. A hello that passes could change
+-- what the other's held bytes are (`other-unfinished`): but where the other's own has not passed, nothing is shared before or after; where it has
+-- and this one had not, nothing is held there; and where both had, no hello changes.
 -- Assumes nothing.
 use Prim.Native.Nat.{ℕ, _+_, _≤_}
 use native.Mathlib.Omega.{arith}
@@ -133,6 +135,7 @@ other-unfinished d s t hold mine n w u =
         link Guest p q = λ i. record { sender = Host; guest = p i; host = q i }
         link Host p q = λ i. record { sender = Guest; guest = q i; host = p i }
 
+-- the caller's own direction is as `Next` says; the other's count and hello are as they were, and its bytes still no packet (`other-unfinished`)
 left-next : (x : Both) (d : Side) (t : Session) (hold : List ℕ) → Left x → Next d (x .session) t hold → Left (record { session = t; hold = of-side d hold (x .hold) })
 left-next x Guest t hold h n =
     record {

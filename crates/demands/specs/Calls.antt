@@ -1,5 +1,8 @@
 -- Each call, in the words of document 01 and without the definitions' own tests: the number of a reader call, in its order (`bars`), that of a
--- writer call (`shuts`), what a reader call takes and leaves of the buffer, and where the packet lies (`leaves`), and when it stops the session (`stops`).
+-- writer call (`shuts`), what a reader call takes and leaves of the buffer, and where the packet lies (`leaves`), and when it stops the session
+-- (`stops`).
+-- The premises of a sentence on a number decide the definition's tests. The other two go by the ways of a call, barred or by its cut, with the
+-- numbers of each (`Numbers.antt`). A hello needs nothing shared, so 23, 24 or 13 refuses it (`hello-number`).
 -- Assumes nothing.
 use Prim.Native.Nat.{ℕ, _+_, _-_, _≤_, _<_}
 use native.Mathlib.Omega.{arith}
@@ -55,6 +58,7 @@ abbrev pub otherPassed : Side → Session → Bool
 otherPassed Guest s = passed (s .host)
 otherPassed Host s = passed (s .guest)
 
+-- where the sender's own hello has passed, both have exactly where the other's has
 waiting-is : (from : Side) (s : Session) → isWaiting (linkOf from s) ≡ (ownPassed from s && not (otherPassed from s))
 waiting-is Guest s = go (passed (s .guest)) (passed (s .host))
   where
@@ -124,6 +128,7 @@ header-number l b n e =
     subst (λ (m : ℕ). (m ≡ 0 → ⊥) → ofHeader m ≡ true) (i .number)
     (header-numbers (λ m. (m ≡ 0 → ⊥) → ofHeader m ≡ true) ((λ z. absurd (z refl)), ((λ z. refl), ((λ z. refl), ((λ z. refl), tt)))) l (kindOf b) (lengthOf b)) (i .refused)
 
+-- the premises of each sentence decide the tests in front of its number; where none of 41, 43, 3 and 2 holds, the cut decides
 pub bars : (from : Side) (s : Session) (hold piece : List ℕ) → Bars from s hold piece (offerOf from s hold piece .number)
 unfolding offerOf barred
 bars from s hold piece =
@@ -168,6 +173,7 @@ next-next a b c = go (eqb a 0) refl
     go true e = refl
     go false e = rw e refl
 
+-- the same for the writer; `writeNumber` nests its numbers to the left, the sentence to the right (`next-next`)
 pub shuts : (from : Side) (s : Session) (p : Content) (room : ℕ) → Shuts from s p room (writeBy from s p room)
 unfolding writeBy shut writeNumber packetNumber
 shuts from s p room =
@@ -198,6 +204,7 @@ shuts from s p room =
 abbrev pub nothing : ℕ → Bool
 nothing n = among (2 ∷ 3 ∷ 41 ∷ 43 ∷ []) n
 
+-- what a call does to the session and the buffer, what it takes, and where the packet lies, by its number
 pub record Leaves (from : Side) (s : Session) (hold piece : List ℕ) (o : Outcome) : Type 0 where
   -- "takes nothing"; "nothing taken or changed"
   pub unmoved : nothing (o .number) ≡ true → (o .session ≡ s) × (o .hold ≡ hold) × (o .taken ≡ 0)
@@ -249,6 +256,7 @@ completed-rest hold piece held n w = go (eqb held 0)
 
 -- a packet, or a header that is refused, of so many bytes
 module _ (from : Side) (s : Session) (hold piece : List ℕ) (size : ℕ) (w : Whole hold piece (heldOf from s) size) where
+  -- the number ends a packet, so that what is said of 1, 2, 3, 41 and 43 asks nothing; the bytes are those of `lies` and `completed-rest`
   ended : (t : Session) (n : ℕ) (h : Option Handed) → ends n ≡ true
       → (ofHeader n ≡ true → size ≡ headSize (linkOf from s) (heldBytes from s hold ++ piece))
       → (ofHeader n ≡ false → size ≡ headSize (linkOf from s) (heldBytes from s hold ++ piece) + lengthOf (heldBytes from s hold ++ piece))
@@ -268,6 +276,7 @@ module _ (from : Side) (s : Session) (hold piece : List ℕ) (size : ℕ) (w : W
 barred-other : (from : Side) (s : Session) (hold : List ℕ) → barred from s hold ≡ 1 → ⊥
 barred-other = barred-numbers (λ m. m ≡ 1 → ⊥) ((λ e. omega (arith, e)), ((λ e. omega (arith, e)), ((λ e. omega (arith, e)), ((λ e. omega (arith, e)), ((λ e. omega (arith, e)), tt)))))
 
+-- by the ways of a call: the number of each leaves only some of these sentences to show
 pub leaves : (from : Side) (s : Session) (hold piece : List ℕ) → Leaves from s hold piece (offerOf from s hold piece)
 unfolding offerOf
 leaves from s hold piece =
@@ -288,6 +297,7 @@ leaves from s hold piece =
           packet-size = λ h. absurd (true≢false (sym h ∙ z));
         }
 
+    -- the three ways of a call that is not barred
     goes : Ready from s hold → (c : Cut) → cutAt (linkOf from s) (heldBytes from s hold ++ piece) ≡ c → Leaves from s hold piece (byCut from s hold piece c)
     goes r more e =
         record {
@@ -407,6 +417,7 @@ module _ (d : Side) (s : Session) (b : List ℕ) (n : ℕ) (e : cutAt (linkOf d 
       y : (eqb (kindOf b) 0 && false) ≡ false
       y = still (eqb (kindOf b) 0)
 
+-- barred and 1 stop nothing, a refused header always stops, and a whole packet as its verdict does
 pub stops : (from : Side) (s : Session) (hold piece : List ℕ)
     → offerOf from s hold piece .session .stopped ≡ (s .stopped || stopping (kindOf (heldBytes from s hold ++ piece)) (offerOf from s hold piece .number))
 unfolding offerOf

@@ -1,6 +1,8 @@
 -- What `gate::body_of` lends is the packet's bytes behind its header, as many as the header says (`body-lent`), and nothing where no packet is
 -- handed out (`nothing-lent`). What `gate::data_of` lends of it is, for the kinds that have a string or data behind their fields, the rest of the
 -- content that demand 3 speaks of; for a hello and the tables, what their fields and words are read off (`data-lent`).
+-- At 0 a packet passes (`demand-2`), what is handed out is the reading of its bytes (`is-handed`), and `leaves` says that these lie where the
+-- answer tells. At any other number each way of a call hands nothing out. The data goes kind by kind, by computation.
 -- Assumes nothing.
 use Prim.Native.Nat.{ℕ}
 use native.Mathlib.Omega.{arith}
@@ -83,6 +85,7 @@ module _ (from : Side) (s : Session) (hold piece : List ℕ) (h : Passes from s 
       let z : judged (heldAs from 0 s) (eventOf from (packetAt from s hold piece (h .size))) .number ≡ 0 = sym (ap (λ (o : Outcome). o .number) q) ∙ demand-2 from s hold piece .1 h in
       ap (λ (o : Outcome). o .handed) q ∙ ap (λ (m : ℕ). cond (eqb m 0) (readOf l b .handed) none) z
 
+  -- the reading hands a packet on, so that the code's is one too, with the reading's header and content
   lends-by : (bytes : List ℕ) → bytes ≡ b → (c : CodeHanded) → handedAs l bytes c ≡ readOf l b .handed → Lends from s hold piece (h .size) c bytes
   unfolding readOf
   lends-by bytes y Nothing e = absurd (Option·none-ne-some _ (rw read-zero at e))
@@ -162,6 +165,7 @@ pub record DataLent (caps : ℕ) (h : Header) (bytes : List ℕ) : Type 0 where
   pub interrupt : (e : Endpoint) (status n : ℕ) (d : Part) → Lent caps h bytes (Interrupt e status n d)
   pub buffered-bulk : (stream n : ℕ) (e : Endpoint) (status : ℕ) (d : Part) → Lent caps h bytes (BufferedBulk stream n e status d)
 
+-- kind by kind, by computation
 pub data-lent : (caps : ℕ) (h : Header) (bytes : List ℕ) → DataLent caps h bytes
 unfolding Lent ReadOff contentOf layout kinds
 data-lent caps h bytes =

@@ -1,6 +1,8 @@
--- Demand 1: every call gets a number of document 01, takes no more than its piece, and on refusal changes no endpoint, stream or request;
--- a refused write puts no byte out, and none changes a byte behind those that it puts out. That no call strays outside its memory is the
--- checker's own condition on every access.
+-- Demand 1: every call gets a number of document 01, takes no more than its piece, and on refusal changes no endpoint, stream or request; a
+-- refused write puts no byte out, and none changes a byte behind those that it puts out. That no call strays outside its memory is the checker's
+-- own condition on every access.
+-- A reader call is barred or goes by its cut, with the numbers of each way (`Numbers.antt`); what the judge refuses leaves the session as it was.
+-- A writer call is refused, or has put the packet in front, for which there was room (`writer-exactly`).
 -- Assumes nothing.
 use Prim.Native.Nat.{ℕ, _+_, _≤_}
 use native.Mathlib.Omega.{arith}
@@ -104,6 +106,7 @@ module _ (d : Side) (s : Session) (b : List ℕ) (n : ℕ) (e : cutAt (linkOf d 
       (λ t. rw t (λ z. subst (Unchanged s) (sym (refused (heldAs d 0 s) (eventOf d (decode (linkOf d s) (take n b))) z)) (held-same d 0 s)))
       (λ t. rw t (λ z. refused-same d s (kindOf (take n b))))
 
+-- by the ways of a call: each has its numbers, takes what is there, and moves hellos, device and requests only at 0
 read-answered : (from : Side) (s : Session) (hold piece : List ℕ) → Answered s hold piece (offerOf from s hold piece)
 unfolding offerOf
 read-answered from s hold piece =
@@ -111,6 +114,7 @@ read-answered from s hold piece =
     (λ t. rw t (goes (ready from s hold (eqb-true _ _ t)) (cutAt (linkOf from s) (heldBytes from s hold ++ piece)) refl))
     (λ t. rw t (record { number = barred-number from s hold; taken = omega arith; buffer = refl; refusal = λ z. same s }))
   where
+    -- the three ways of a call that is not barred
     goes : Ready from s hold → (c : Cut) → cutAt (linkOf from s) (heldBytes from s hold ++ piece) ≡ c → Answered s hold piece (byCut from s hold piece c)
     goes r more e = record { number = refl; taken = omega arith; buffer = length-sets hold (heldOf from s) piece; refusal = λ z. held-same from (heldOf from s + length piece) s }
     goes r (bad n) e =
@@ -151,6 +155,7 @@ next-number P n m p q = go (eqb n 0)
     go true = q
     go false = p
 
+-- 43, 3 or 2, then the header's number, then that of the wire checks, then 40: each is of the list
 write-number : (from : Side) (s : Session) (p : Content) (room : ℕ) → among writeNumbers (writeBy from s p room) ≡ true
 unfolding writeBy writeNumber packetNumber
 write-number from s p room =

@@ -1,7 +1,8 @@
--- Demand 2, over the whole gate: a reader call answers 0 exactly when a packet becomes whole with its piece that the wire checks and the
--- session allow (`demand-2`), and else which number it gives (`number-in-gate`); a reply that passes consumes the one outstanding request that
--- it answers (`reply-in-gate`); what a packet that passes does to the session is what the judge says (`moves-in-gate`), and it is handed out
--- (`handed-in-gate`).
+-- Demand 2, over the whole gate: a reader call answers 0 exactly when a packet becomes whole with its piece that the wire checks and the session
+-- allow (`demand-2`); which number a whole packet gets (`number-in-gate`); a reply that passes consumes the one request that it answers
+-- (`reply-in-gate`); a packet that passes does what the judge says (`moves-in-gate`), and is handed out (`handed-in-gate`).
+-- A call that is barred, wants more or refuses a header does not answer 0. With a whole packet out of the wire checks it is the judge's answer
+-- (`judged-call`), of which `claims` speaks. The writer's number is 0 exactly where no part of it refuses (`writer-exactly`).
 -- Assumes nothing.
 use Prim.Native.Nat.{ℕ, _≤_}
 use native.Mathlib.Omega.{arith}
@@ -165,6 +166,7 @@ pub record Written (from : Side) (s : Session) (p : Content) (space : ℕ) : Typ
   pub form : wireNumber (linkOf from s) p ≡ 0
   pub room : length (encode (linkOf from s) p) ≤ space
 
+-- `orNext` of two numbers is 0 exactly where both are (`both-zero`)
 pub writer-exactly : (from : Side) (s : Session) (p : Content) (room : ℕ) → (writeBy from s p room ≡ 0) ↔ Written from s p room
 unfolding writeBy writeNumber packetNumber
 writer-exactly from s p room = (written, writing)

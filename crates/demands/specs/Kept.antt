@@ -1,5 +1,8 @@
--- What every reader call keeps, once both hellos have passed: the hellos, that 43 does not refuse the session, and what
--- the other direction holds.
+-- What every reader call keeps, once both hellos have passed: the hellos, that 43 does not refuse the session for itself, and the other
+-- direction's held count (`offer-keeps`).
+-- By the ways of a call: barred, it changes nothing; where more is wanted, its own count; a refused header stops the session; and of a whole
+-- packet, the judge keeps these (`claims/specs/Kept.antt`). A count of at most 32,783 is all that is owed, since neither end waits.
+-- A header is decided by its own bytes (`header-front`), so that a whole packet gets the number of what it says (`whole-number`).
 -- Assumes nothing.
 use Prim.Native.Nat.{ℕ, _+_, _-_, _≤_}
 use native.Mathlib.Omega.{arith}
@@ -124,6 +127,7 @@ keeps-on d s t u a b = record { sound = b .sound; guest = b .guest ∙ a .guest;
 count-fits : (own other : Hello) (n : ℕ) → passed other ≡ true → n ≤ 32783 → FitCount own other n
 count-fits own other n p h = record { few = h; none-waiting = λ a b. absurd (true≢false (sym p ∙ b)) }
 
+-- a call that leaves so many bytes held in its direction
 counted : (d : Side) (s : Session) (n : ℕ) → Sound s → n ≤ 32783 → Keeps d s (heldAs d n s)
 counted Guest s n h few =
     record {

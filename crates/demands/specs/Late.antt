@@ -1,5 +1,8 @@
--- A late reply, over reader calls: once the request that waited under an id was answered or ended, a reply with that id is refused until a request
--- takes the id again (`never-another-call`). Of the judge alone `claims/specs/Runs.antt` says it.
+-- A late reply, over reader calls: once the request that waited under an id was answered or ended, a reply with that id, but for an unsolicited
+-- status, is refused until a request takes the id again (`never-another-call`). Of the judge alone `claims/specs/Runs.antt` says it.
+-- A call moves the requests only at 0, and then as the judge does (`by-call`, by demands 1 and 2), so that the judge's laws hold of a call: an
+-- ended request leaves none under its id, and that stays so while none takes it, by induction over the calls. A call that answers 0 or 25 to 34
+-- has a packet out of the wire checks (`came-out`); of such a reply `late` says the rest.
 -- Assumes nothing.
 use Prim.Native.Nat.{ℕ}
 use mathlib.Core.Path.{_≡_, refl, sym, ap, subst, _∙_}
@@ -50,6 +53,7 @@ pub record CameOut (from : Side) (s : Session) (hold piece : List ℕ) : Type 0 
   pub whole : cutAt (linkOf from s) (heldBytes from s hold ++ piece) ≡ whole size
   pub form : wireNumber (linkOf from s) (packetAt from s hold piece size) ≡ 0
 
+-- by the ways of a call: none has 0 or 25 to 34 among its numbers but that of a whole packet in which the wire checks find nothing
 pub came-out : (from : Side) (s : Session) (hold piece : List ℕ) → comesOut (offerOf from s hold piece .number) ≡ true → CameOut from s hold piece
 unfolding offerOf comesOut verdictOf
 came-out from s hold piece =
@@ -63,6 +67,7 @@ came-out from s hold piece =
     shut : (barred from s hold ≡ 0 → ⊥) → comesOut (barred from s hold) ≡ false
     shut = barred-numbers (λ m. (m ≡ 0 → ⊥) → comesOut m ≡ false) ((λ z. absurd (z refl)), ((λ z. refl), ((λ z. refl), ((λ z. refl), ((λ z. refl), tt))))) from s hold
 
+    -- the three ways of a call that is not barred
     goes : Ready from s hold → (c : Cut) → cutAt (linkOf from s) all ≡ c → comesOut (byCut from s hold piece c .number) ≡ true → CameOut from s hold piece
     goes r more e c = absurd (false≢true c)
     goes r (bad n) e c =

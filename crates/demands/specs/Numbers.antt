@@ -1,4 +1,7 @@
--- Which numbers there are: those of a header, of the wire checks, of the session checks, and of a call that is barred.
+-- Which numbers there are: those of a header, of the wire checks, of the session checks, and of a call that is barred (`header-numbers`,
+-- `wire-numbers`, `session-numbers`, `barred-numbers`): what holds of each number of a list holds of the one that is given.
+-- A definition is a nest of tests, and for each outcome of its tests the number is one of the list. The session's is the first of a list of
+-- checks, by induction over that.
 -- Assumes nothing.
 use Prim.Native.Nat.{ℕ}
 use mathlib.Core.Path.{sym, subst}
@@ -39,6 +42,7 @@ module _ (P : ℕ → Type 0) where
       go false false true = p .0
       go false false false = p .1 .1 .0
 
+  -- 20 of an unknown kind; else 21 to 24 in their order, then 13, then 0
   pub wire-numbers : Each P (0 ∷ 13 ∷ 20 ∷ 21 ∷ 22 ∷ 23 ∷ 24 ∷ []) → (l : Link) (p : Content) → P (wireNumber l p)
   unfolding wireNumber kindNumber
   wire-numbers p l q = known (find (q .kind) kinds)

@@ -1,4 +1,7 @@
--- What the functions of the rows answer in each case, in the values that the code has.
+-- What the functions of the rows answer in each case, in the values that the code has: a stream that is set, left, or without a row
+-- (`stream-set`, `stream-left`, `stream-none`), and whether a scope touches an endpoint's row (`touched-nowhere` and those after it).
+-- The definitions go by `rowOf e`, the code by an answer o with `o ≡ rowOf e`: `at-row` and `in-scope` put the case of o into the definition,
+-- which then computes. That a row which is found is below 32 is `endpoint-back`.
 -- Assumes nothing.
 use Prim.Native.Nat.{ℕ, _<_}
 use mathlib.Core.Path.{_≡_, refl, sym, ap, _∙_}

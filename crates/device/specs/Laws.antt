@@ -1,4 +1,7 @@
 -- Laws of the rows: which changes of them leave their number, their types, and rows 0 and 16 control.
+-- Closing a scope changes each row, and opening or closing a stream one of them, but never a row's type: so the types stay at every index
+-- (`each-keeps`, `set-keeps`), and with them both control rows. A new endpoint table has the types of the new rows; a row past the end reads as
+-- control (`replaced-row`).
 -- Assumes nothing.
 use Prim.Native.Nat.{ℕ, _<_}
 use mathlib.Core.Path.{_≡_, refl, ap, _∙_}

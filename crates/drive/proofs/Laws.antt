@@ -1,4 +1,8 @@
--- The record of a call, byte for byte, and a run of a script, call by call.
+-- The record of a call, byte for byte (`answer-laid`, `answer-bytes`), and a run of a script, call by call, as `driven` defines it.
+-- Seven numbers, each laid where the one before it ends, are one run of stores (`sets-append`). The code's sums wrap at 2 ^ 64, which their four
+-- low bytes do not show (`low-bytes`).
+-- The loop keeps `Driving`: the records so far stand at the front of the output, and the rest of the script gives from here what all of it gives.
+-- A whole item unfolds `runOf` once (`run-more`); at one that is cut short, or where the output is full, nothing is to come.
 -- Assumes nothing.
 use mathlib.Core.Path.{_≡_, refl, sym, ap, ap₂, _∙_}
 use mathlib.Core.List.{List, [], _++_}
@@ -169,6 +173,7 @@ pub record Driving (script guest₀ host₀ out₀ guest host out : List ℕ) (s
   pub laid : out ≡ sets out₀ 0 records
   pub to-come : runOf (length out₀ / 26 - k) (record { session = s; guest = guest; host = host; records = records; calls = k }) (drop at script) ≡ driven script guest₀ host₀ out₀
 
+-- before the first call nothing is laid, and all of the script is to come
 pub drive-starts : {script guest host out : List ℕ} {s : Session} → s ≡ freshSession → Driving script guest host out guest host out s 0 0
 unfolding driven
 drive-starts e =
@@ -192,6 +197,7 @@ module _ {script guest₀ host₀ out₀ guest host out : List ℕ} {s : Session
   abbrev now-run : Run
   now-run = record { session = s; guest = guest; host = host; records = p .records; calls = k }
 
+  -- a whole item: its record is laid behind the others, and what is to come stands behind it in the script
   pub drive-goes-on : {rest : List ℕ} {n b : ℕ} {from : Side} {piece guest′ host′ out′ : List ℕ} {o : Offered} → k < length out₀ / 26
       → rest ≡ drop at script
       → n ≡ le 4 rest 1
@@ -225,6 +231,7 @@ module _ {script guest₀ host₀ out₀ guest host out : List ℕ} {s : Session
         to-come = sym y ∙ rw e at (p .to-come);
       }
 
+  -- where nothing is to come, the run so far is all of it
   stops : runOf (length out₀ / 26 - k) now-run (drop at script) ≡ now-run → Drives script guest₀ host₀ out₀ guest host out k
   stops e =
       let z : now-run ≡ driven script guest₀ host₀ out₀ = sym e ∙ p .to-come in

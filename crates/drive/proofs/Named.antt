@@ -1,4 +1,5 @@
--- The part that a packet names is the same whatever is shared.
+-- The part that a packet names is the same whatever is shared (`part-named`).
+-- A line for each variant, by computation: of what `shownOf` gives, only a field's value looks at the shared set.
 -- Assumes nothing.
 use Prim.Native.Nat.{ℕ}
 use mathlib.Core.Path.{_≡_, refl}
@@ -6,6 +7,7 @@ use Rattle.packet.specs.declared.Packet.{Packet}
 use Rattle.packet.specs.declared.Packet.the-variants.{Hello, Connect, Disconnect, Reset, InterfaceTable, EndpointTable, SetConfiguration, GetConfiguration, ConfigurationStatus, SetAlt, GetAlt, AltStatus, StartIso, StopIso, IsoStatus, StartInterrupt, StopInterrupt, InterruptStatus, AllocStreams, FreeStreams, StreamsStatus, Cancel, FilterReject, Filter, DisconnectAck, StartBulkReceiving, StopBulkReceiving, BulkReceivingStatus, Control, Bulk, Iso, Interrupt, BufferedBulk}
 use Rattle.packet.specs.Packet.{shownOf, partNamed}
 
+-- a line for each variant
 pub part-named : (caps : ℕ) (p : Packet) → shownOf caps p .part ≡ partNamed p
 part-named caps (Hello a) = refl
 part-named caps (Connect a b c d e f g) = refl

@@ -1,4 +1,8 @@
--- What the code knows of a packet's content: how long its body is, and, where the wire checks find nothing, which bytes it has.
+-- What the code knows of a packet's content: how long its body is, and so the header's number (`header`), and, where the wire checks find
+-- nothing, which bytes it has (`encoded`) and how many (`sum`).
+-- The facts (`Shows`) tell the kind, the table's size and the part of the body behind the head. Where the checks find nothing the whole table is
+-- there (`full`), and fields that are read off bytes and written again are these bytes (`again`): so the body is the head and then that part as
+-- it stands (`whole`).
 -- Assumes nothing.
 use mathlib.Core.Path.{_≡_, sym, ap, _∙_}
 use mathlib.Core.List.{List, _++_, append-assoc}

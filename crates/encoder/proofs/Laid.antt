@@ -1,4 +1,6 @@
--- Runs of stores, one behind the other, are one run.
+-- Runs of stores, one behind the other, are one run: the header's three numbers, the head and the rest, laid one by one, are the packet
+-- (`laid-out`); and a run from the front is that run with what was behind it (`laid`).
+-- Each run starts where the one before it ends, so `sets-append` joins two of them (`behind`), from the last pair to the first.
 -- Assumes nothing.
 use mathlib.Core.Path.{_≡_, refl, sym, ap, _∙_}
 use mathlib.Core.List.{List, _++_}

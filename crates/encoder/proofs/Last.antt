@@ -1,4 +1,5 @@
--- The last field of a connect packet and of a bulk packet, which may be absent, fits.
+-- The last field of a connect packet and of a bulk packet, which may be absent, fits (`version-fits`, `high-fits`).
+-- By its two cases: an absent field owes nothing, a version has 16 bits by its type, and the high half of a count of 32 bits has 16.
 -- Assumes nothing.
 use Prim.Native.Nat.{ℕ, _/_, _<_, _^_}
 use mathlib.Core.Bool.{Bool, true, false, cond}

@@ -1,4 +1,7 @@
--- What a call of the writer has to leave, by the number of the packet: over any content.
+-- What a call of the writer has to leave, by the number of the packet, over any content: no byte where it is refused (`refused`) or there is no
+-- room (`no-room`), else the packet in front (`put-out`); and which number it is, by the header or by the wire checks (`by-header`, `by-wire`).
+-- With the packet's number known, `writeNumber`, `writtenSize` and `written` compute. The code takes a part of more than 65,536 bytes for one of
+-- 65,536, so that no sum wraps: 10 refuses both (`capped`).
 -- Assumes nothing.
 use mathlib.Core.Path.{_≡_, refl, sym}
 use mathlib.Core.Bool.{Bool, true, false}

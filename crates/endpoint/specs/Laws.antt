@@ -1,4 +1,6 @@
--- The passage between rows and endpoints goes both ways and loses nothing.
+-- The passage between rows and endpoints goes both ways and loses nothing (`row-back`, `endpoint-back`).
+-- A row is the address's four low bits and 16 times its top bit, and an address that has a row has zeros between these: so either comes back from
+-- the other by division and remainder, which is arithmetic.
 -- Assumes nothing.
 use mathlib.Core.Path.{_≡_, refl}
 use mathlib.Core.Bool.{Bool, true, false, cond}

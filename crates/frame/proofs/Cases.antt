@@ -1,4 +1,8 @@
--- What bytes are, case by case, in the values that the code has: the header's size, its number, and the length that it says.
+-- What bytes are, case by case, in the values that the code has: the header's size, its number, and the length that it says (`cut-short`,
+-- `cut-refused`, `cut-part`, `cut-full`); how they are read across two slices (`beyond`, `spelt`), and what is completed in the buffer
+-- (`completed-begun`).
+-- The code compares the piece with what the held bytes lack, the definition all bytes with what they should be: one is the other by arithmetic on
+-- lengths, and `cutOf` then computes from its three tests.
 -- Assumes nothing.
 use mathlib.Core.Path.{_≡_, sym, ap, ap₂, _∙_}
 use mathlib.Core.Bool.{true, false}

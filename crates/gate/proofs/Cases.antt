@@ -1,4 +1,8 @@
--- What a reader call of the code gives, case by case, is what the definition gives.
+-- What a reader call of the code gives, case by case, is what `offerOf` gives: a call that is barred (`offer-barred`), more wanted
+-- (`offer-more`), a refused header (`offer-refused`) and a whole packet (`offer-whole`).
+-- The code's cut tells that of the definition (`cut-more`, `cut-bad`, `cut-whole`), by which `byCut` computes. The judged bytes are read where
+-- the packet lies after the call: these are the first of the held bytes with the piece behind them by `lies`, since the packet fits the buffer
+-- and has more bytes than were held (`whole-fits`).
 -- Assumes nothing.
 use Prim.Native.Nat.{ℕ, _+_, _-_, _≤_}
 use native.Mathlib.Omega.{arith}

@@ -1,4 +1,7 @@
--- What a writer call of the code gives, case by case, is what the definition gives.
+-- What `body_of` and `data_of` lend, and what a writer call of the code gives, case by case, is what the definition gives: a call that is shut
+-- (`write-shut`), and one that leaves what the encoder leaves (`write-open`).
+-- Each case computes once the code's equations are put in. The code asks of the packet whether it is a hello, the definition of its content under
+-- the shared set: a packet's kind is the same whatever is shared, a line for each variant (`kind-same`).
 -- Assumes nothing.
 use Prim.Native.Nat.{ℕ}
 use mathlib.Core.Path.{_≡_, refl, sym, ap, _∙_}

@@ -1,4 +1,8 @@
--- Where a packet lies when a reader call is over, and what can be held.
+-- Where a packet lies when a reader call is over (`lies`), what can be held (`more-few`, `whole-here`, `header-here`), what a call that is not
+-- barred has (`ready`, `not-barred`), and 43's tests of a session as relations (`fit-is`, `is-fit`).
+-- With nothing held a packet lies in the piece; else it is completed behind the held bytes, and the buffer's front is these and what was taken
+-- (`completed-front`). That a packet or a refused header has more bytes than were held is `more-less` and `more-head`, and that it fits the
+-- buffer goes by its greatest size. The tests are split one by one.
 -- Assumes nothing.
 use Prim.Native.Nat.{ℕ, _+_, _-_, _≤_, _<_}
 use native.Mathlib.Omega.{arith}

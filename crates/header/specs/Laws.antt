@@ -1,4 +1,7 @@
--- A header's bytes are read back, for both widths of an id in one proof over the width.
+-- A header's bytes are read back (`kind-back`, `length-back`, `id-back`), for both widths of an id in one proof over the width; a header has 12
+-- to 16 bytes (`wide`, `narrow`), and one that nothing refuses says at most 32,768 (`short`).
+-- Kind and length have four bytes each and stand in front; the id is read behind these eight (`le-after`). Each number comes back by `le-bytes`,
+-- where it fits its width. What depends on the id's width is shown for 4 and for 8 (`id-widths`).
 -- Assumes nothing.
 use mathlib.Core.Path.{_≡_, refl, _∙_}
 use mathlib.Core.Bool.{Bool, true, false, cond, not, _&&_}

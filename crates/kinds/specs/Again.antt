@@ -1,4 +1,7 @@
--- What is read off bytes and written again is what was there, over any list of fields.
+-- What is read off bytes and written again is what was there, over any list of fields (`again`); and the bytes of values are those of the first
+-- and then those of the others (`bytes-append`).
+-- By induction over the fields, the numbers of a field and the bytes of a number: each byte is below 256, so that the remainder by 256 gives it
+-- back and the quotient those behind it (`number-again`).
 -- Assumes nothing.
 use mathlib.Core.Path.{_≡_, refl, sym, ap, subst, _∙_}
 use mathlib.Core.Bool.{Bool, true, false, cond}

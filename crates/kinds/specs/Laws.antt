@@ -1,4 +1,8 @@
--- What is written is what is read, over any list of fields: the layout's laws, which know no kind.
+-- What is written is what is read, over any list of fields (`round`, `rest-back`, `length-of`): the layout's laws, which know no kind.
+-- By induction over the fields, for values that fit them (`Fit`), as those do of which the checks find nothing (`fit`): a value's bytes are as
+-- many as its field has, so that the next is read where its own begin.
+-- Of what is read: all of it is there exactly where the bytes are no fewer than the layout says (`complete-split`); then each field is read where
+-- it stands (`split-full`); and what is read off bytes fits (`fitting-split`).
 -- Assumes nothing.
 use mathlib.Core.Path.{_≡_, refl, sym, ap, subst, _∙_}
 use mathlib.Core.Bool.{Bool, true, false, cond, not, _&&_, _||_, false≢true}
@@ -189,6 +193,7 @@ pub complete-split : (has : Bits → Bool) (fs : List Field) (s : List ℕ) → 
 complete-split has [] s = sym (leb·zero (length s))
 complete-split has (f ∷ fs) s = go (has (f .there)) refl (complete-split has fs (drop (sizeOf has f) s))
   where
+    -- a field that is not there has no bytes; one that is there needs its own, and the others those behind them
     go : (b : Bool) → has (f .there) ≡ b → complete fs (split has fs (drop (sizeOf has f) s)) ≡ leb (size has fs) (length (drop (sizeOf has f) s))
         → complete (f ∷ fs) (split has (f ∷ fs) s) ≡ leb (size has (f ∷ fs)) (length s)
     go false e ih = rw e (rw e at ih ∙ ap (λ (m : ℕ). leb m (length s)) (sym (zero-add (size has fs))))
@@ -271,6 +276,7 @@ wide-id false false id h = refl
 
 -- ---- a rule that no number of a field breaks
 
+-- where the search for a number that fails finds none, each of the n numbers keeps the rule
 pub each-good : (ok : ℕ → Bool) (w n i at : ℕ) → isNone (firstBad ok w n i at) ≡ true → (k : ℕ) → k < n → ok (i + k) ≡ true
 each-good ok w zero i at e k h = absurd (omega arith)
 each-good ok w (suc n) i at e k h = go k h (good (ok i) e) (each-good ok w n (suc i) (at + w))

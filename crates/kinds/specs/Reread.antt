@@ -1,4 +1,7 @@
--- The other way round: what the reader passes, the writer accepts and puts out as the same bytes.
+-- The other way round: what the reader passes, the writer accepts and puts out as the same bytes (`reread`).
+-- A number of 0 says that the header is not refused, that the bytes are as many as it says, and that the wire checks find nothing (`whole`). Then
+-- all fields are there (`all-there`), so that the body's length is the header's, and `again` gives the body back; the header's three numbers come
+-- back one by one (`number-there`).
 -- Assumes nothing.
 use mathlib.Core.Path.{_≡_, refl, sym, ap, _∙_}
 use mathlib.Core.Bool.{Bool, true, false, not, _||_}

@@ -1,5 +1,8 @@
--- The round trip: for every link and every packet that the writer accepts, its bytes are one whole packet whose number is 0,
--- and reading them gives that packet. One statement over all kinds and both widths of an id.
+-- The round trip: for every link and every packet that the writer accepts, its bytes are one whole packet whose number is 0, and reading them
+-- gives that packet (`round-trip`). One statement over all kinds and both widths of an id.
+-- Acceptance says that no check holds, and so that kind and id fit the header and the values their fields (`accepted`). The header's numbers are
+-- read back by its laws, the body stands behind it (`reads`), and fields and rest come back by `round` and `rest-back`. The number is then that
+-- of the packet itself.
 -- Assumes nothing.
 use mathlib.Core.Path.{_≡_, refl, sym, ap, _∙_}
 use mathlib.Core.Bool.{Bool, true, false, not, _&&_, _||_, false≢true}
@@ -99,6 +102,7 @@ id-fits l p k f w b = go (eqb (p .kind) 0) refl
         rw n (id-widths (λ m. 0 < 256 ^ m) (omega arith) (omega arith) l (p .kind))
     go false s = leb-false (256 ^ idWidth l (p .kind)) (p .id) (simp s at w)
 
+-- a number of 0 says that no check holds (`none-holds`), and each that does not hold gives a part of this
 pub accepted : (l : Link) (p : Content) → Accepted l p → Sound l p
 unfolding packetNumber wireNumber kindNumber layout bad
 accepted l p a = go (find (p .kind) kinds) refl
@@ -106,6 +110,7 @@ accepted l p a = go (find (p .kind) kinds) refl
     zs : (headerNumber l (p .kind) (bodyLength l p) ≡ 0) × (wireNumber l p ≡ 0)
     zs = both-zero (headerNumber l (p .kind) (bodyLength l p)) (wireNumber l p) (a .number)
 
+    -- an unknown kind has 20; a known one its checks
     go : (o : Option Kind) → find (p .kind) kinds ≡ o → Sound l p
     go none f = let z : _≡_ {A = ℕ} 20 0 = rw f at (zs .1) in absurd (omega arith)
     go (some k) f =
@@ -153,6 +158,7 @@ record Read (l : Link) (p : Content) : Type 0 where
   size : length (encode l p) ≡ headerSize l (p .kind) + length (bodyOf p)
   counted : length (bodyOf p) ≡ bodyLength l p
 
+-- the header's laws read its three numbers back, and the body is what stands behind as many bytes as the header has
 reads : (l : Link) (p : Content) → Sound l p → Read l p
 unfolding encode
 reads l p s =
@@ -175,6 +181,7 @@ reads l p s =
       counted = e;
     }
 
+-- what is read is put together from kind, id, fields and rest; so the number of the bytes is that of the packet, 0
 pub round-trip : (l : Link) (p : Content) → Accepted l p → RoundTrip l p
 unfolding decode contentAt readNumber
 round-trip l p a =

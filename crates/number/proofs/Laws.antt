@@ -1,4 +1,7 @@
--- What one turn of a loop does to a number or to a run of stores, and how a part is cut to what there is.
+-- What one turn of a loop does to a number (`le-step`, `grow`, `room`) or to a run of stores (`bytes-step`, `lay-step`), that nothing is left to
+-- lay once all is laid or there is no more room (`lay-none`), and how a part is cut to what there is (`slice-min`).
+-- A turn makes the count that is left a successor, and `le`, `bytesOf` or `sets` computes one step. The others go by induction over the count and
+-- the list: past the end there is nothing to take, to drop or to change.
 -- Assumes nothing.
 use mathlib.Core.Path.{_≡_, refl, sym, ap, _∙_}
 use mathlib.Core.List.{List, [], _∷_}

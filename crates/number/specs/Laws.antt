@@ -1,4 +1,7 @@
--- The laws of numbers in bytes, each over the width.
+-- The laws of numbers in bytes, each over the width: what is written is read back (`le-bytes`), behind other bytes (`le-shift`, `le-drop`) and
+-- before them (`le-front`), and n bytes spell a number below 256 to the n (`le-lt`). Two runs of stores are one (`sets-append`).
+-- By induction over the width: the first byte is the remainder by 256, and those behind it spell the quotient. What stands in front is taken off
+-- byte by byte (`le-cons`); runs of stores go by induction over the first.
 -- Assumes nothing.
 use mathlib.Core.Path.{_≡_, refl, sym, ap, ap₂, _∙_}
 use mathlib.Core.List.{List, [], _∷_, _++_}

@@ -1,5 +1,8 @@
--- Seven numbers of which the last are zeros read like those before them; the first number of a field that may not be there
--- is what the code gives for it; and the columns of a row are those of the row that it is.
+-- Seven numbers of which the last are zeros read like those before them (`none-of` to `five-of`); the first number of a field that may not be
+-- there is what the code gives for it (`connect-front`, `bulk-front`); and the columns of a row are those of the row that it is
+-- (`interface-cell`, `endpoint-cell`).
+-- Past its end a list reads as 0, so zeros behind it change no number: by induction over the list and the index (`padded`). A field that may not
+-- be there goes by its two cases; a row is replaced by its equal.
 -- Assumes nothing.
 use mathlib.Core.Path.{_≡_, refl, sym, ap, _∙_}
 use mathlib.Core.Bool.{Bool, true, false, cond, _||_}

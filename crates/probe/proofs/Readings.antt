@@ -1,4 +1,8 @@
--- What a reading tells the functions of this crate: from `told l bytes r ≡ readOf l bytes`, for a packet that passed and for one that did not.
+-- What a reading tells the functions of this crate: from `told l bytes r ≡ readOf l bytes`, for a packet that passed (`passing`) and for one that
+-- did not (`refusing`), and by function (`number-passed`, `field-passed`, `part-start` and the others).
+-- Both sides of that equation hand something on only where the number is 0, so that what is handed on can be compared. The numbers that a packet
+-- holds are the first of its content's fields, since they are as many as its kind has in front: a line for each variant, by computation
+-- (`front-length`).
 -- Assumes nothing.
 use mathlib.Core.Path.{_≡_, refl, sym, ap, _∙_}
 use mathlib.Core.Bool.{Bool, true, false, cond}
@@ -67,6 +71,7 @@ module _ {l : Link} {bytes : List ℕ} {r : Reading} (t : told l bytes r ≡ rea
 
 -- ---- the fields that a packet holds as numbers are its kind's front fields
 
+-- a line for each variant
 front-length : (caps : ℕ) (p : Packet) → length (shownOf caps p .front) ≡ length (frontFields (layout (shownOf caps p .kind)))
 unfolding kinds layout
 front-length caps (Hello part) = refl

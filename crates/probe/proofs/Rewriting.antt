@@ -1,4 +1,6 @@
--- What a reading and a writing of its packet tell together: a packet that was read is written again.
+-- What a reading and a writing of its packet tell together: a packet that was read is written again (`rewrite-passed`), one that was refused is
+-- not (`rewrite-refused`); and what the writing of a bulk packet tells (`bulk-written`).
+-- What the read packet says is `decode` of the bytes (`passing`), and of that content the encoder's contract speaks.
 -- Assumes nothing.
 use mathlib.Core.Path.{_≡_}
 use mathlib.Core.List.{List}

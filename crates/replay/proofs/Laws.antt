@@ -1,4 +1,7 @@
--- The numbers of a script, packet by packet.
+-- The numbers of a script, packet by packet, as `numbersOf` defines them.
+-- The loop keeps `Replaying`: the numbers of the rest of the script, laid behind those so far, give the output and the count that all of them
+-- give. A whole packet unfolds `numbersOf` once: its verdict's number is the next to lay, and its session the one to go on with
+-- (`replay-goes-on`). At a packet that is cut short, or where the output is full, no number is left (`replay-short`, `replay-full`).
 -- Assumes nothing.
 use mathlib.Core.Path.{_≡_, refl, ap, _∙_}
 use mathlib.Core.List.{List, [], _∷_}
@@ -59,6 +62,7 @@ numbers-more s script at n e h x y =
     numbers-whole n s (drop at script) (rw e at h) ∙ rw (x, y, e, drop-drop (sizeAt (drop at script)) at script)
 
 module _ {script before after : List ℕ} {s : Session} {at k : ℕ} (p : Replaying script before after s at k) where
+  -- a whole packet: its number is laid behind the others, and what is to come stands behind it in the script
   pub replay-goes-on : {rest : List ℕ} {n b : ℕ} {from : Side} {bytes : List ℕ} (v : Verdict) → k < length after
       → rest ≡ drop at script
       → n ≡ le 2 rest 1

@@ -1,4 +1,7 @@
--- What a call of C's tells, as a count; bytes moved to the front of a list, and stored into a part of it; what the program's steps do.
+-- What a call of C's tells, as a count (`told-count`, `told-moved`, `told-none`); bytes moved to the front of a list (`shift-more`,
+-- `shift-keeps`), and stored into a part of it (`sets-part`); what the program's steps do (`writes-much`, `line-printed`, `run-goes`).
+-- A signed number above 0 is its own count, by the cases of its sign. Moving writes at i and reads at start + i, which no write so far has
+-- reached (`getD-sets-past`). At most 22,528 bytes of output wait and a line prints at most 239,616: there is room for both (`line-room`).
 -- Assumes nothing.
 use Prim.Native.Nat.{ℕ, zero, suc, _+_, _-_, _≤_, _<_, min}
 use native.Mathlib.Numerals.{add-one}
@@ -149,6 +152,7 @@ module _ (p : State) (f : Fits p) (k : ℕ) (guest host input out : List ℕ) {l
     pub line-room : p .size + l .reported .size ≤ 262144
     line-room = omega (arith, line-size, f .room, prints-short (progress p guest host) (take k (drop (p .start) input)))
 
+    -- what is stored into the part behind `size` is stored there in the output (`sets-part`); the rest is what was told, and `Writes`
     pub line-printed : {m : ℕ} {r : State} → length out ≡ 262144 → p .start + k ≤ p .end → part ≡ take (length out - p .size) (drop (p .size) out)
         → m ≡ min (p .start + k + 1) (p .end)
         → Writes (record { session = l .reported .session; totals = l .reported .totals; start = m; end = p .end; last = p .last; size = p .size + l .reported .size; over = l .bad }) r

@@ -1,4 +1,8 @@
--- A run puts out what `transcript` defines for the whole input. What the code hands to C's write is `writtenIn` by its text, `&out[..size]`:
+-- A run puts out what `transcript` defines for the whole input (`whole-output`).
+-- By induction over the turns (`turns-keep`): what was written, what waits in the output buffer, and what the unread bytes with all that follows
+-- still give are together what the input gives. A line moves its print to the buffer (`first-line` of `transcript`), a write moves the buffer
+-- out, and a read leaves all three as they are. At the end the totals are left.
+-- What the code hands to C's write is `writtenIn` by its text, `&out[..size]`:
 -- that is no contract's to say. Assumes nothing.
 use Prim.Native.Nat.{ℕ, zero, suc, _+_, _-_, _≤_, _<_, min}
 use native.Mathlib.Omega.{arith}
@@ -117,6 +121,7 @@ abbrev pub pending : Memory → List ℕ
 pending m = take (m .state .size) (m .out)
 
 module _ {m n : Memory} (f : Fits (m .state)) (lo : length (m .out) ≡ 262144) (more : List ℕ) (none-behind : n .state .last ≡ true → more ≡ []) where
+  -- a line: what it prints is the first of what is still to come, and stands behind the output that was not written yet
   line-keeps : {k : ℕ} → nextOf (unread (m .state) (m .input)) (m .state .last) ≡ Line k
       → (q : Prints (m .state) k (m .guest) (m .host) (m .input) (m .out) (n .state) (n .guest) (n .host) (n .out)) → n .input ≡ m .input
       → pending m ++ outputFrom (progressOf m) (linesOf (unread (m .state) (m .input) ++ more))

@@ -1,4 +1,7 @@
--- What the ids of the live requests come to, place by place, and whether one stands there twice, number by number.
+-- What one turn of each loop does, where the ids of the live requests are gathered, place by place (`live-more`, `live-same`), and where it is
+-- asked whether one stands there twice, number by number (`distinct-not`, `distinct-more`).
+-- The list from i on is split at its first element (`drop-cons`), and `liveIds` or `distinct` computes one step; past the end nothing is left
+-- (`live-none`, `distinct-none`).
 -- Assumes nothing.
 use Prim.Native.Nat.{ℕ, _+_, _≤_, _<_}
 use mathlib.Core.Path.{_≡_}

@@ -1,4 +1,6 @@
--- The ids of live requests as a list of numbers: that none stands there twice is that no two live requests have one id.
+-- The ids of live requests as a list of numbers: that none stands there twice is that no two live requests have one id (`distinct-ids`).
+-- By induction over the places: a free place gives no number; a live one gives its id, which is among those behind it exactly where a live place
+-- behind it has it (`live-has`).
 -- Assumes nothing.
 use Prim.Native.Nat.{ℕ, _+_}
 use mathlib.Core.Path.{_≡_, refl}

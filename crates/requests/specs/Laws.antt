@@ -1,4 +1,8 @@
--- Laws of the table of requests: what a change leaves at each place, and that it keeps the ids of live requests apart.
+-- Laws of the table of requests: what a change leaves at each place, and that it keeps the ids of live requests apart (`free-differ`,
+-- `released-differ`, `taken-differ`).
+-- That the ids differ is a test and, by induction over the list, a relation between any two places (`differ-when`, `when-differ`). After a change
+-- each place is free, as it was, or has the new request: a free place is not live, and the id of a new request was that of no live one. What a
+-- search finds is `scan`'s.
 -- Assumes nothing.
 use Prim.Native.Nat.{ℕ, zero, suc, _<_}
 use mathlib.Core.Path.{_≡_, refl, sym, ap, _∙_}
@@ -160,6 +164,7 @@ module _ (t : Requests) (d : idsDiffer (t .places) ≡ true) where
       let f = keptOf rows s in
       differ-kept l (eachAt f 0 l) (λ j. ends rows s (getD l j freePlace)) (λ j h. each-at f l 0 j freePlace (rw (← each-length f l 0) h)) d
 
+  -- the new request clashes with no place, since none that is live has its id; two other places are as they were
   pub taken-differ : (i : ℕ) (r : Request) → lowest t (Id (r .id)) ≡ none → idsDiffer (withPlace t i (taken r) .places) ≡ true
   unfolding withPlace lowest
   taken-differ i r n =

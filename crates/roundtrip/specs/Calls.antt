@@ -1,5 +1,8 @@
--- What a list of reader calls shows, by induction over the list: a stopped session, a packet that is not whole, a whole packet, and a
+-- What a list of reader calls shows, by induction over the list (`runs`): a stopped session, a packet that is not whole, a whole packet, and a
 -- call for the other direction.
+-- Between two calls (`Between`) the held bytes and those not yet taken are the bytes of the packets that have not come out, and fewer are held
+-- than the first of these has. So the held bytes with a piece are less than that packet (`cut-more`) or begin with it (`cut-whole`); the reader's
+-- law for the case says what the call does, and that gives `Between` again.
 -- Assumes nothing: all is proved of every wire layer and every reader that have the laws.
 use Prim.Native.Nat.{ℕ, _+_, _-_, _≤_, _<_, min}
 use native.Mathlib.Omega.{arith}

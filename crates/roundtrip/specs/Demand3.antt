@@ -1,4 +1,6 @@
--- Demand 3 holds of every wire layer, reader and writer that have the laws, from every state that it starts from.
+-- Demand 3 holds of every wire layer, reader and writer that have the laws, from every state that it starts from (`demand3`).
+-- By induction over the writer's calls, what they put out is the bytes of a list of accepted packets (`wrote`). What a list of reader calls does
+-- with such bytes is `runs`, here from a state with nothing held; that these bytes belong to no other list is `apart` and `begins`.
 -- Assumes nothing.
 use Prim.Native.Nat.{ℕ, _-_}
 use native.Mathlib.Omega.{arith}
@@ -41,6 +43,7 @@ module _ (N : Wire) (W : WireLaws N) (R : Reader N) (Q : ReaderLaws N R) (x : R 
           ((Z .checked w z, ih .0), ap (λ (r : List ℕ). N .encode (R .ctx x) (Y .packet w) ++ r) (ih .1))
       go false e ih = rw e ih
 
+  -- the calls begin with nothing held, and all of the packets still to come out
   reads : (ws : List (Y .W)) (cs : List (Call N R)) → Cuts N R (run N R x cs) (joined N Y ws)
       → Read N R (R .ctx x) (accepted N Y ws) (run N R x cs)
   reads ws cs cuts =
@@ -66,6 +69,7 @@ module _ (N : Wire) (W : WireLaws N) (R : Reader N) (Q : ReaderLaws N R) (x : R 
         steady = subst (λ (m : ℕ). Steady N R k ps m ts) z (r .steady);
       }
 
+  -- for the last two, equal bytes put out are equal bytes of accepted packets
   pub demand3 : Demand3 N R Y x
   demand3 =
       record {

@@ -1,5 +1,8 @@
--- Where one accepted packet's bytes begin a list of bytes, no other's do. So different lists of accepted packets have different bytes,
--- and one list's bytes begin another's only where the list does.
+-- Where one accepted packet's bytes begin a list of bytes, no other's do (`first`). So different lists of accepted packets have different bytes
+-- (`apart`), and one list's bytes begin another's only where the list does (`begins`).
+-- A header's own bytes decide its width, its number and its length, whatever follows: so bytes that begin with a packet's are cut behind that
+-- packet (`cut-whole`), and fewer bytes are no packet yet (`cut-more`). Two packets that begin one list are cut at one length, have the same
+-- bytes, and are read as one packet. Lists go by induction.
 -- Assumes nothing: all is proved of every wire layer that has the laws.
 use Prim.Native.Nat.{ℕ, _+_, _≤_, _<_}
 use native.Mathlib.Omega.{arith}

@@ -1,5 +1,7 @@
--- What it tells of bytes that they are more, bad or whole: how long they are, and that of bytes which become a packet with what follows
--- them, fewer are there than the packet has.
+-- What it tells of bytes that they are more, bad or whole (`more-is`, `bad-is`, `whole-is`): how long they are, and that of bytes which become a
+-- packet with what follows them, fewer are there than the packet has (`more-less`, `more-head`).
+-- By the three tests of `cutOf` (`by-tests`). Every header has 12 bytes at least. From 12 bytes on its width does not change with what follows,
+-- nor, once it is whole, its number and its length: so what the bytes become is longer than they are.
 -- Assumes nothing: all is proved of every wire layer that has the laws.
 use Prim.Native.Nat.{ℕ, _+_, _≤_, _<_}
 use native.Mathlib.Omega.{arith}

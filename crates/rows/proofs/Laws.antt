@@ -1,4 +1,7 @@
--- A cell of a column, read where it stands.
+-- A cell of a column, read where it stands: the number that its bytes spell, or 0 where the column is not all there or has no row i
+-- (`cell-there`, `cell-short`, `cell-past`). So the cells that the code reads are the rows (`interface-cells`, `endpoint-cells`).
+-- Number i of a column stands i widths behind its start, by induction over the column (`at-number`). The layout splits one column off after the
+-- other and the code adds their sizes up: `drop-drop` makes both one place, and the rest computes from the table of kinds.
 -- Assumes nothing.
 use mathlib.Core.Path.{_≡_, refl, sym, ap, _∙_}
 use mathlib.Core.Bool.{Bool, true, false, cond}
@@ -70,6 +73,7 @@ module _ (rows : List ℕ) where
 abbrev inColumn : ℕ → List ℕ → ℕ → ℕ
 inColumn w s i = getD (cond (leb (w * 32) (length s)) (numbers w 32 s 0) []) i 0
 
+-- a row of an interface table: four columns, each by its own place
 pub interface-cells : (rows : List ℕ) (i : ℕ)
     → _≡_ {A = InterfaceRow}
     (record { number = cellAt rows 0 1 i; class = cellAt rows 32 1 i; subclass = cellAt rows 64 1 i; protocol = cellAt rows 96 1 i })
@@ -78,6 +82,7 @@ unfolding kinds layout interfaceRow
 interface-cells rows i = λ j.
     record { number = inColumn 1 rows i; class = inColumn 1 (drop 32 rows) i; subclass = inColumn 1 (two rows j) i; protocol = inColumn 1 (three rows j) i }
 
+-- a row of an endpoint table: three columns, and two that may not be there
 pub endpoint-cells : (rows : List ℕ) (packets streams : Bool) (i : ℕ)
     → _≡_ {A = EndpointRow}
     (record {

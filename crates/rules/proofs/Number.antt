@@ -1,4 +1,6 @@
--- A packet's number, from the facts that the code has of it.
+-- A packet's number, from the facts that the code has of it: `wireNumber` of its content is `numberBy` of the facts (`number`).
+-- Both are `inOrder` of five tests, and `Shows` makes each test of the content that of the facts. Which field is bad the facts say only where the
+-- table is whole; where it is not, 23 holds, and 24 and 13 behind it are not asked.
 -- Assumes nothing.
 use Prim.Native.Nat.{ℕ, _-_, _^_, _<_}
 use native.Mathlib.Nat.{add-zero}
@@ -35,6 +37,7 @@ numberBy l id f rows =
     (not (eqb (f .bad) 65536))
     (eqb (f .slot) 0 && (hasBit (le 4 rows (f .table)) 0 && not (hasBit (le 4 rows (f .table)) 4)))
 
+-- test by test; where the table is not whole (`go false`), 23 holds and the tests behind it do not matter
 pub number : (l : Link) (id : ℕ) (p : Packet) (body : List ℕ) (f : Facts) → id < 256 ^ 8 → Shows (l .sender) (sharedSet l) id p body f
     → wireNumber l (contentOf (sharedSet l) id p body) ≡ numberBy l id f (inPart (f .rest) body)
 unfolding wireNumber kindNumber contentOf layout idWidth

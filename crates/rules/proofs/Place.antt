@@ -1,4 +1,6 @@
--- A field that breaks a rule starts below place 65,536, so that number can stand for none.
+-- A field that breaks a rule starts below place 65,536, so that number can stand for none (`none-bad`).
+-- By induction over the fields, and over the numbers of a field, the place lies within the size of the kind's fields, which is at most 65,535. A
+-- string that breaks its rule starts where the fields end, and an id has the place 65,535.
 -- Assumes nothing.
 use Prim.Native.Nat.{ℕ, zero, suc, _+_, _*_, _≤_}
 use native.Mathlib.Nat.{mul-suc}

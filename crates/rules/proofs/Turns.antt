@@ -1,4 +1,6 @@
--- What one turn of a loop finds: the first zero byte, and the first row whose type is none.
+-- What one turn of a loop finds: the first zero byte (`zero-more`, `zero-here`, `zero-none`), and the first row whose type is none (`type-more`,
+-- `type-here`).
+-- The search from i on computes one step: by the test of what stands at i it ends there, or is the search from i + 1 on.
 -- Assumes nothing.
 use mathlib.Core.Path.{_≡_, sym, ap, _∙_}
 use mathlib.Core.Bool.{Bool, true, false, cond}

@@ -1,4 +1,7 @@
--- What a search finds and what a change of one element or of each leaves, in relations.
+-- What a search finds and what a change of one element or of each leaves, in relations: `first-found`, `first-lowest`, `first-absent`,
+-- `exists-at`, `any-absent`; `getD-set`, `set-keeps`; `each-at`, `each-keeps`.
+-- By induction over the list: the test of the first element decides a step, and the index goes up by one with each element. A search that counts
+-- from k finds its index with k added (`first-from`).
 -- Assumes nothing.
 use Prim.Native.Nat.{ℕ, zero, suc, _+_, _<_}
 use mathlib.Core.Path.{_≡_, refl, sym, ap, _∙_}

@@ -1,4 +1,5 @@
--- Tests and what they say.
+-- Tests and what they say: what `&&`, `||` and `not` come to, from their parts and back.
+-- By the cases of the first test.
 -- Assumes nothing.
 use mathlib.Core.Bool.{Bool, true, false, not, _&&_, _||_, false≢true, true≢false}
 use mathlib.Core.Path.{_≡_, refl}

@@ -1,4 +1,7 @@
 -- What a loop over the elements of an array has found or done after i of them. The invariants of the loops cite these laws.
+-- A search: the rest of the list is split at i (`drop-cons`), and the definition computes one step. A change in place: `upTo` is the list with
+-- its first n elements changed, the next is still as it was (`upto-at`), and its change gives one more (`upto-more`), by induction over n and the
+-- list.
 -- Assumes nothing.
 use Prim.Native.Nat.{ℕ, zero, suc, _+_, _≤_, _<_}
 use mathlib.Core.Path.{_≡_, refl, sym, ap, _∙_}

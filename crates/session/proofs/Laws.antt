@@ -1,4 +1,8 @@
--- What the functions of the session answer in each case, in the values that the code has.
+-- What the functions of the session answer in each case, in the values that the code has: the requests after a request or a reply (`asked-by`,
+-- `answered-by`), the device and the requests after a packet of a class (`device-by`, `requests-by`), and the judge's answer (`judged-passed`,
+-- `judged-refused`).
+-- Of each value the code has an equation with the definition, from a contract or from the arm that it is in. Put into the definition, these leave
+-- one case, which computes.
 -- Assumes nothing.
 use Prim.Native.Nat.{ℕ}
 use mathlib.Core.Path.{_≡_, sym, ap, _∙_}

@@ -1,4 +1,8 @@
--- What one call of the code adds to a report, and what the calls so far leave to those still to come.
+-- What one call of the code adds to a report (`call-silent`, `call-told`), and what the calls so far leave to those still to come.
+-- By the gate's contract the code's answer is `offerOf`'s, and what it adds computes once it is known whether the answer has a line. The loop
+-- keeps `Reporting`: the calls still to come, over the lines so far, give what all of them give. Each call uses up some of what is left
+-- (`used-more`), so that no more calls are needed than there are bytes. A size that stays at the largest number points behind the output, where
+-- nothing is laid (`sets-cut`).
 -- Assumes nothing.
 use Prim.Native.Nat.{ℕ, suc, _+_, _-_, _≤_, _<_, min}
 use native.Mathlib.Omega.{arith}
@@ -85,6 +89,7 @@ module _ {from : Side} {r₀ : Reported} {hold₀ piece out₀ hold out : List �
       pub used-more : 0 < c .used
       used-more = omega (arith, q .used, used-some (offerOf from (r .session) hold rest) rest (call-takes from (r .session) hold rest) (omega (arith, left)))
 
+      -- a call: its line stands behind the others, one call fewer is to come, and the rest of the piece is that behind what it used up
       pub report-goes-on : length out₀ ≤ largest → Reporting from r₀ hold₀ piece out₀ hold-after out-after (c .reported) (at + c .used)
       report-goes-on few =
           let o = offerOf from (r .session) hold rest in

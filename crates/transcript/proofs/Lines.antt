@@ -1,4 +1,7 @@
--- Where a line ends, and what an input line adds to a report.
+-- Where a line ends (`end-here`, `end-further`, `end-none`, `next-line`, `next-wait`), what a piece does with both buffers (`from-guest`,
+-- `from-host`), and what an input line adds to a report (`line-bad`, `line-good`).
+-- A turn splits the list at i, and `lineEnd` computes one step. What `decode_line` told is what the line is (`told-bad`, `told-piece` of
+-- `capture`), and by that `stepOf` computes; a piece moves its sender's buffer alone.
 -- Assumes nothing.
 use Prim.Native.Nat.{ℕ, suc, _+_, _≤_, _<_}
 use native.Mathlib.Numerals.{add-one}

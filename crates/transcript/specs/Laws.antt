@@ -1,4 +1,7 @@
--- What a call takes of its piece, and how long the lines of a piece can be.
+-- What a call takes of its piece (`call-takes`, `used-within`, `used-some`), and how long the lines of a piece can be (`lines-short`).
+-- By the ways of a call: one whose answer has a line has come to the end of a packet or of a header, which has more bytes than were held
+-- (`more-less`, `more-head`), so that it takes some; any other uses up the rest. So as many calls as there are bytes are enough (`more-calls`). A
+-- line has at most 117 bytes, and the rest is induction over the calls.
 -- Assumes nothing.
 use Prim.Native.Nat.{ℕ, zero, suc, _+_, _-_, _*_, _≤_, _<_}
 use native.Mathlib.Omega.{arith}

@@ -1,4 +1,8 @@
--- An input that is read in parts gives what it gives as a whole; and what a part that does not decide, and what a line prints, can be.
+-- An input that is read in parts gives what it gives as a whole (`first-line`, `last-wait`); and what a part that does not decide, and what a
+-- line prints, can be (`wait-few`, `prints-short`).
+-- There are three ways to begin with a line. Bytes with a newline: by induction over them the first line is theirs, whatever follows
+-- (`newline-there`). The last bytes of the input: they are the last line (`last-line`). More than 4,113 bytes without a newline: the line is bad,
+-- however it goes on (`newline-missing`, `long-bad`), and behind a bad line nothing is looked at.
 -- Assumes nothing.
 use Prim.Native.Nat.{ℕ, suc, _+_, _%_, _≤_, _<_}
 use native.Mathlib.Omega.{arith}
@@ -107,6 +111,7 @@ unfolding inFront
 front-of b [] = record { further = []; rest = []; is = refl }
 front-of b (line ∷ lines) = record { further = line; rest = lines; is = refl }
 
+-- by induction over the bytes: each stands in front of the line that those behind it begin
 newline-missing : (b : ℕ) (bytes more : List ℕ) → suc (length bytes) ≤ lineEnd (b ∷ bytes) → Begins (b ∷ bytes) (linesOf ((b ∷ bytes) ++ more))
 unfolding lineEnd linesOf inFront
 newline-missing b [] more h = go (eqb b 10) h

@@ -1,4 +1,7 @@
--- A whole packet's verdict, where the wire checks refuse it and where they pass it.
+-- A whole packet's verdict, where the wire checks refuse it (`verdict-refused`) and where they pass it (`verdict-passed`).
+-- Both come from the decoder's contract, `told l bytes r ≡ readOf l bytes`: a reading without a packet has a number that is not 0, and one with a
+-- packet the number 0 and the content of `decode`. So the event that the code builds is that of `decode`, and what the judge answers to it is the
+-- definition's.
 -- Assumes nothing.
 use Prim.Native.Nat.{ℕ}
 use native.Mathlib.Omega.{arith}
@@ -65,6 +68,7 @@ module _ (s : Session) (from : Side) {l : Link} (same-link : l ≡ linkOf from s
       let z : eqb (readNumber l bytes) 0 ≡ false = handed-none _ _ (ap (λ (x : ReadTold). x .handed) g) in
       rw (← same-link, z, ap (λ (x : ReadTold). x .number) g, en, ek)
 
+  -- the code's packet says what `decode` says, so that its event and the judge's answer are those of the definition
   pub verdict-passed : {h : Header} {p : Packet} {body : List ℕ} {e : Event} {j : Judged} {v : Verdict} → r ≡ Read h p
       → body ≡ slice (h .size) (length bytes) bytes
       → Means from (h .id) p body e

@@ -1,5 +1,8 @@
--- usbredir packets as a wire layer: its parts are header's and kinds' definitions. It has the laws, so that no two accepted packets
--- have the same bytes, and no accepted packet's bytes begin another's. What the shared set doesn't allow is refused by number.
+-- usbredir packets as a wire layer: its parts are header's and kinds' definitions. It has the `laws`, so that no two accepted packets have the
+-- same bytes, and no accepted packet's bytes begin another's. What the shared set doesn't allow is refused by number (`unshared-number`,
+-- `unsuited-number`).
+-- The header's laws and the round trip give the laws, and `Prefix.antt` of `roundtrip` the rest. What is not allowed is no hello: 10 or 11
+-- refuses its header, or 21 or 22 what is not shared; a missing field or a stray stream breaks a field rule, 24, if none of 21 to 23 comes first.
 -- Assumes nothing.
 use Prim.Native.Nat.{ℕ, _+_, _≤_}
 use native.Mathlib.Omega.{arith}
