@@ -33,8 +33,8 @@ use Rattle.gate.specs.declared.Offered.{Offered}
 use Rattle.frame.specs.Frame.{bytesAt}
 use Rattle.gate.specs.Offer.{outcome, offerOf}
 use Rattle.drive.specs.declared.Data.{Data}
-use Rattle.drive.specs.Drive.{senderOf, sizeAt, pieceAt, senderAt, placeNumber, startOf, endOf, idOf, recordBytes, recordOf, Run, recorded, called, runOf, driven, Drives}
-use Rattle.drive.specs.Steps.{dataIn, answerBytes, OffersTo}
+use Rattle.drive.specs.Drive.{senderOf, sizeAt, pieceAt, senderAt, placeNumber, startOf, endOf, idOf, recordBytes, recordOf, Run, ownOf, recorded, called, runOf, driven, Drives}
+use Rattle.drive.specs.Steps.{dataIn, answerBytes, other}
 use Rattle.drive.proofs.Named.{part-named}
 
 -- ---- a record
@@ -120,17 +120,23 @@ data-passed q n a b = rw (q, a, b, n)
 
 -- ---- a call
 
-pub offers-guest : (from : Side) {s : Session} {guest piece : List ℕ} {r : Offered} {guest′ : List ℕ} (host : List ℕ) → from ≡ Guest
-    → outcome (linkOf from s) r piece guest′ ≡ offerOf from s guest piece
-    → OffersTo from s guest host piece r guest′ host
-offers-guest Guest host e o = record { own = o; other-stays = refl }
-offers-guest Host host e o = let z : _≡_ {A = ℕ} 0 1 = cc in absurd (omega arith)
+-- a reader call over the sender's own buffer, which leaves the other as it is
+pub record OffersTo (from : Side) (s : Session) (guest host piece : List ℕ) (r : Offered) (guest′ host′ : List ℕ) : Type 0 where
+  pub own : outcome (linkOf from s) r piece (ownOf from guest′ host′) ≡ offerOf from s (ownOf from guest host) piece
+  pub other-stays : ownOf (other from) guest′ host′ ≡ ownOf (other from) guest host
+  pub guest-length : length guest′ ≡ length guest
+  pub host-length : length host′ ≡ length host
 
-pub offers-host : (from : Side) {s : Session} {host piece : List ℕ} {r : Offered} {host′ : List ℕ} (guest : List ℕ) → from ≡ Host
-    → outcome (linkOf from s) r piece host′ ≡ offerOf from s host piece
-    → OffersTo from s guest host piece r guest host′
-offers-host Host guest e o = record { own = o; other-stays = refl }
-offers-host Guest guest e o = let z : _≡_ {A = ℕ} 0 1 = cc in absurd (omega arith)
+module _ {from : Side} {s : Session} {guest host piece : List ℕ} {r r′ : Offered} {b guest′ host′ : List ℕ} where
+  pub offers-guest : from ≡ Guest → outcome (linkOf from s) r piece b ≡ offerOf from s guest piece → length b ≡ length guest
+      → guest′ ≡ b → host′ ≡ host → r′ ≡ r → OffersTo from s guest host piece r′ guest′ host′
+  offers-guest e o l eg eh er =
+      rw (eg, eh, er) (rw e (record { own = rw e at o; other-stays = refl; guest-length = l; host-length = refl }))
+
+  pub offers-host : from ≡ Host → outcome (linkOf from s) r piece b ≡ offerOf from s host piece → length b ≡ length host
+      → guest′ ≡ guest → host′ ≡ b → r′ ≡ r → OffersTo from s guest host piece r′ guest′ host′
+  offers-host e o l eg eh er =
+      rw (eg, eh, er) (rw e (record { own = rw e at o; other-stays = refl; guest-length = refl; host-length = l }))
 
 -- the run after a call
 abbrev ranOn : Run → Offered → List ℕ → List ℕ → Run
@@ -206,11 +212,9 @@ module _ {script guest₀ host₀ out₀ guest host out : List ℕ} {s : Session
       → from ≡ senderOf b
       → piece ≡ slice 5 (5 + n) rest
       → OffersTo from s guest host piece o guest′ host′
-      → length guest′ ≡ length guest
-      → length host′ ≡ length host
       → out′ ≡ sets out (k * 26) (answerBytes (o .answer))
       → Driving script guest₀ host₀ out₀ guest′ host′ out′ (o .session) (at + (5 + n)) (k + 1)
-  drive-goes-on {n = n} {from = from} {piece = piece} {guest′ = guest′} {host′ = host′} {out′ = out′} {o = o} h r en w eb ef ep t gl hl eo =
+  drive-goes-on {n = n} {from = from} {piece = piece} {guest′ = guest′} {host′ = host′} {out′ = out′} {o = o} h r en w eb ef ep t eo =
       let m : 5 + n ≡ sizeAt (drop at script) = rw (en, r) in
       let l : 5 + n ≤ length (drop at script) = rw r at w in
       let f : from ≡ senderAt (drop at script) = rw (ef, eb, r) in
@@ -222,8 +226,8 @@ module _ {script guest₀ host₀ out₀ guest host out : List ℕ} {s : Session
       record {
         within = omega (arith, length-drop at script, p .within);
         room = omega arith;
-        guest-length = gl ∙ p .guest-length;
-        host-length = hl ∙ p .host-length;
+        guest-length = t .guest-length ∙ p .guest-length;
+        host-length = t .host-length ∙ p .host-length;
         out-length = ap length eo ∙ length-sets out (k * 26) (answerBytes (o .answer)) ∙ p .out-length;
         records = p .records ++ answerBytes (o .answer);
         records-length = omega (arith, length-append (p .records) (answerBytes (o .answer)), p .records-length, record-length (o .answer .number) (placeNumber (o .answer .place)) (o .answer .taken) (o .answer .size) (dataIn (o .answer .handed) .start) (dataIn (o .answer .handed) .end) (dataIn (o .answer .handed) .id));

@@ -27,8 +27,3 @@ answerBytes a = recordBytes (a .number) (placeNumber (a .place)) (a .taken) (a .
 abbrev pub other : Side → Side
 other Guest = Host
 other Host = Guest
-
--- an offer over the sender's own buffer, which leaves the other as it is
-pub record OffersTo (from : Side) (s : Session) (guest host piece : List ℕ) (r : Offered) (guest′ host′ : List ℕ) : Type 0 where
-  pub own : outcome (linkOf from s) r piece (ownOf from guest′ host′) ≡ offerOf from s (ownOf from guest host) piece
-  pub other-stays : ownOf (other from) guest′ host′ ≡ ownOf (other from) guest host

@@ -5,10 +5,9 @@ ghost use Prim.Native.Nat.{_+_, _≤_};
 ghost use lib.ListN.{length};
 ghost use lib.Seq.{sets};
 ghost use Rattle.drive.specs.Drive.{senderOf, placeNumber, Drives};
-ghost use Rattle.drive.specs.Steps.{dataIn, answerBytes, OffersTo};
+ghost use Rattle.drive.specs.Steps.{dataIn, answerBytes};
 use frame::Place;
 use gate::Answer;
-use gate::Offered;
 use gate::offer;
 use header::Side;
 use number::get8;
@@ -81,16 +80,6 @@ fn put_record(out: &mut [u8], at: usize, a: Answer)
     put(out, at + 18, 8, data.id);
 }
 
-// A reader call over the sender's own buffer.
-fn offer_to(s: Session, from: Side, guest: &mut [u8], host: &mut [u8], piece: &[u8]) -> Offered
-    ensures { λ r. ⌜ OffersTo from s (now (guest .entry)) (now (host .entry)) (now (piece .entry)) r (now (guest .exit)) (now (host .exit)) ⌝ }
-{
-    match from {
-        Side::Guest => offer(s, from, guest, piece),
-        Side::Host => offer(s, from, host, piece),
-    }
-}
-
 // Makes a reader call for each item of the script, as far as the script and the output go, and tells how many. An item is a byte for
 // the sender (0 guest, else host), four bytes for the size of the piece, and the piece. Each call has 26 bytes of the output: number
 // (1), place (1: 0 nowhere, 1 piece, 2 buffer), taken (4), size (4), where the data starts and ends among the packet's bytes (4, 4), id (8).
@@ -108,13 +97,12 @@ pub extern "C" fn drive(script: &[u8], guest: &mut [u8], host: &mut [u8], out: &
         if rest.len() < size {
             return k;
         }
-        let o = offer_to(
-            s,
-            sender_of(get8(rest, 0)),
-            guest,
-            host,
-            part(rest, 5, size),
-        );
+        let from = sender_of(get8(rest, 0));
+        let piece = part(rest, 5, size);
+        let o = match from {
+            Side::Guest => offer(s, from, guest, piece),
+            Side::Host => offer(s, from, host, piece),
+        };
         s = o.session;
         let answer = o.answer;
         put_record(out, k * 26, answer);

@@ -187,9 +187,10 @@ fn take_packet(s: Session, from: Side, size: usize, hold: &mut [u8], piece: &[u8
     ensures { λ r. ⌜ outcome (linkOf from s) r (now (piece .entry)) (now (hold .exit)) ≡ packetTaken from s (now (hold .entry)) (now (piece .entry)) (verdictOf (heldAs from 0 s) from (take size (heldBytes from s (now (hold .entry)) ++ now (piece .entry)))) size ⌝ }
 {
     let held = held_of(s, from);
+    let idle = hold_count(s, from, 0);
     let taken = complete(hold, held, piece, size);
     let place = place_of(held);
-    let v = verdict_of(hold_count(s, from, 0), from, lend(place, size, piece, hold));
+    let v = verdict_of(idle, from, lend(place, size, piece, hold));
     let session = v.session;
     let handed = v.handed;
     let answer = Answer {

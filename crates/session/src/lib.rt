@@ -43,14 +43,15 @@ pub struct Held {
     pub host: usize,
 }
 
-// What belongs to the two ends and to the device stands apart from the requests that wait.
+// What belongs to the two ends and to the device stands apart from the requests that wait. These come first: they are most of the
+// record, and so a copy of them next to another is one.
 pub struct Session {
+    pub requests: Requests,
     pub guest: Hello,
     pub host: Hello,
     pub stopped: bool,
     pub held: Held,
     pub device: Device,
-    pub requests: Requests,
 }
 
 // The session after a packet, and the packet's number: 0 where it passed.
@@ -69,12 +70,12 @@ pub fn fresh_session() -> Session
     let device = start_device(false);
     let requests = fresh();
     Session {
+        requests,
         guest,
         host,
         stopped: false,
         held,
         device,
-        requests,
     }
 }
 
@@ -364,12 +365,12 @@ fn next_for(s: Session, e: Event, m: Match) -> Session
     let device = device_after(d, is_shared(s, 3), e, m);
     let requests = requests_after(t, rows, e, m);
     Session {
+        requests,
         guest: next_guest,
         host: next_host,
         stopped: s.stopped,
         held,
         device,
-        requests,
     }
 }
 

@@ -4,7 +4,9 @@ use Prim.Native.Nat.{_+_, _-_, _*_, _/_, _<_, _^_}
 use native.Mathlib.Omega.{arith}
 use borrow.Author.Needs.{needs}
 use lib.ListN.{length}
-use Rattle.drive.proofs.Laws.{Driving, rest-is, drive-starts, drive-goes-on, drive-short, drive-full}
+use mathlib.Core.Logic.{⊎-elim}
+use denote.Ref.{now}
+use Rattle.drive.proofs.Laws.{Driving, OffersTo, offers-guest, offers-host, rest-is, drive-starts, drive-goes-on, drive-short, drive-full}
 use Rattle.drive.proofs.drive.Statement.{statement}
 use Rattle.drive.proofs.drive.Tie as tie
 
@@ -61,15 +63,33 @@ sender-of-requires c κs = search needs
 part-requires : tie.Need-part-requires Inv-loop μ-loop
 part-requires c κs = search needs
 
-offer-to-requires : tie.Need-offer-to-requires Inv-loop μ-loop
-offer-to-requires c κs = search needs
+enum-told : tie.Need-enum-told Inv-loop μ-loop
+enum-told c = search needs
+
+offer-requires : tie.Need-offer-requires Inv-loop μ-loop
+offer-requires c κs = search needs
+
+enum-told-2 : tie.Need-enum-told-2 Inv-loop μ-loop
+enum-told-2 c = search needs
+
+offer-requires-2 : tie.Need-offer-requires-2 Inv-loop μ-loop
+offer-requires-2 c κs = search needs
+
+-- either arm is a reader call over the sender's own buffer
+offered : (c : tie.At-match-came Inv-loop μ-loop)
+    → OffersTo (c .before .before .sender-of .result) (c .before .before .before .before .before .before .before .before .loop .s) (c .before .before .before .before .before .before .before .before .loop .guest) (c .before .before .before .before .before .before .before .before .loop .host) (now (c .before .part .result)) (c .match .o) (c .match .guest) (c .match .host)
+offered c =
+    ⊎-elim
+    (λ w. offers-guest (w .1 .given .1) (w .3 .ensures) (w .3 .kept .1 .1 .0) (w .6) (w .7) (w .8))
+    (λ w. offers-host (w .1 .given .1) (w .3 .ensures) (w .3 .kept .1 .1 .0) (w .6) (w .7) (w .8))
+    (c .match .came)
 
 -- a record that there is room for ends in the output, so that its place is a number
 record-ends : (c : tie.In-loop Inv-loop μ-loop) → c .before .loop .k * 26 + 26 < 2 ^ 64
 record-ends c = omega arith
 
 mul-put-record : tie.Need-mul-put-record Inv-loop μ-loop
-mul-put-record c = omega (arith, record-ends (c .before .before .before .before .before .before .before .before .before .before .before .before .before .before .before .before))
+mul-put-record c = omega (arith, record-ends (c .before .before .before .before .before .before .before .before .before .before))
 
 put-record-requires : tie.Need-put-record-requires Inv-loop μ-loop
 put-record-requires c κs = search needs
@@ -79,20 +99,20 @@ item-ends : (c : tie.Else1 Inv-loop μ-loop) → c .before .before .before .befo
 item-ends c = omega arith
 
 add-at : tie.Need-add-at Inv-loop μ-loop
-add-at c = omega (arith, item-ends (c .before .before .before .before .before .before .before .before .before .before .before .before .before .before .before .before))
+add-at c = omega (arith, item-ends (c .before .before .before .before .before .before .before .before .before .before))
 
 add-k : tie.Need-add-k Inv-loop μ-loop
-add-k c = omega (arith, record-ends (c .before .before .before .before .before .before .before .before .before .before .before .before .before .before .before .before .before .before .before))
+add-k c = omega (arith, record-ends (c .before .before .before .before .before .before .before .before .before .before .before .before .before))
 
 loop-less : tie.Need-loop-less Inv-loop μ-loop
 loop-less c = search needs
 
 loop-again : tie.Need-loop-again Inv-loop μ-loop
 loop-again c =
-    let o = c .before .before .before .before .before .before .before .before .before .before in
-    let i = o .before .before .before .before .before .before in
+    let m = c .before .before .before .before .before .before in
+    let i = m .before .before .before .before in
     let a = i .before .before .before in
-    drive-goes-on (a .before .loop .inv) (a .loop-test .taken) (rest-is (a .before .before .before .before .before .before .before .args .script .now) (a .before .loop .at)) (i .before .get32 .ensures) (i .if1 .left) (o .before .before .before .before .before .get8 .ensures) (o .before .before .before .before .sender-of .ensures) (o .before .part .ensures) (o .offer-to .ensures) (o .offer-to .kept .1 .1 .0) (o .offer-to .kept .1 .1 .1 .0) (c .before .before .put-record .ensures)
+    drive-goes-on (a .before .loop .inv) (a .loop-test .taken) (rest-is (a .before .before .before .before .before .before .before .args .script .now) (a .before .loop .at)) (i .before .get32 .ensures) (i .if1 .left) (m .before .before .before .get8 .ensures) (m .before .before .sender-of .ensures) (m .before .part .ensures) (offered m) (c .before .before .put-record .ensures)
 
 same-length-4 : tie.Need-same-length-4 Inv-loop μ-loop
 same-length-4 c = search needs
@@ -127,7 +147,10 @@ drive-spec =
     get8-requires
     sender-of-requires
     part-requires
-    offer-to-requires
+    enum-told
+    offer-requires
+    enum-told-2
+    offer-requires-2
     mul-put-record
     put-record-requires
     add-at
