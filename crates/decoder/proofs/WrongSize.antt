@@ -12,6 +12,7 @@ use native.Mathlib.Omega.{arith}
 use lib.ListN.{length, drop, length-drop}
 use lib.Dec.{eqb, leb, ltb}
 use borrow.Author.Tests.{lt-leb, ltb-true, ltb-false, ne-eqb, not-true, not-false}
+use borrow.Table.Steps.{cases}
 use Rattle.number.specs.Bits.{hasBit}
 use Rattle.header.specs.declared.Link.{Link}
 use Rattle.header.specs.declared.Side.{Side}
@@ -47,10 +48,6 @@ no-tail payload-onward from fs vs n e z = absurd (false≢true e)
 and-false : (a b : Bool) → b ≡ false → (a && b) ≡ false
 and-false true b e = e
 and-false false b e = refl
-
-cases : {P : Type 0} (b : Bool) → (b ≡ true → P) → (b ≡ false → P) → P
-cases true f g = f refl
-cases false f g = g refl
 
 module _ (l : Link) (slot id : ℕ) (body : List ℕ) (small : slot < 33) (fits : id < 256 ^ 8) where
   -- the number where the size is wrong

@@ -9,6 +9,7 @@ use mathlib.Core.List.{List}
 use mathlib.Core.Option.{none}
 use lib.Dec.{ltb}
 use borrow.Author.Tests.{ltb-false}
+use borrow.Table.Steps.{cases}
 use Rattle.number.specs.Little.{le}
 use Rattle.number.specs.Laws.{le-drop}
 use Rattle.number.specs.Bits.{hasBit}
@@ -78,10 +79,6 @@ count : (caps n : ℕ) → n % 65536 + 65536 * firstNumber (high caps n) ≡ n
 count caps n = count-back (hasBit caps 6) (ltb 65535 n) n (ltb-false 65535 n)
 
 -- both outcomes of a test
-cases : {P : Type 0} (b : Bool) → (b ≡ true → P) → (b ≡ false → P) → P
-cases true f g = f refl
-cases false f g = g refl
-
 pub means : (from : Side) (id : ℕ) (p : Packet) (body : List ℕ) → Means from id p body (builds from id p body)
 unfolding meanings meaningOf eventOf kinds layout contentOf
 means from id (Hello part) body caps = ap (λ (w : ℕ). withWord w (plainEvent from 0 id classes.Hello)) (sym (le-drop 4 64 (inPart part body) 0))

@@ -1,12 +1,13 @@
 -- The code's arrays are columns of the table: each is, by computation, the `map` of what it holds of a kind.
 -- Assumes nothing.
 use mathlib.Core.Path.{_≡_, refl, sym, _∙_}
-use mathlib.Core.Bool.{Bool, true, false, cond, not, _&&_, _||_, or-false}
+use mathlib.Core.Bool.{Bool, cond, not, _&&_, _||_, or-false}
 use mathlib.Core.List.{List, map}
 use Prim.Native.Nat.{ℕ, _≤_, _<_}
 use lib.ListN.{length, getD, set, List·getD-map, List·getD-eq-default}
 use lib.Seq.{drop-cons, getD-set-other}
 use lib.Dec.{eqb}
+use borrow.Table.Steps.{cases}
 use Rattle.number.specs.Bits.{hasBit}
 use Rattle.header.specs.declared.Side.{Side}
 use Rattle.kinds.specs.Table.{Sender, G, H, B, Bits, always, bit, bits, Kind, kinds, kindAt, none-such}
@@ -80,10 +81,6 @@ changes caps = refl
 
 pub others : (caps slot : ℕ) → (slot ≡ 1 → ⊥) → (slot ≡ 5 → ⊥) → (slot ≡ 29 → ⊥) → sizeUnder caps (kindAt slot) ≡ sizeUnder 0 (kindAt slot)
 others caps slot a b c = rw (← List·getD-map (sizeUnder caps) kinds slot none-such, changes caps, getD-set-other, getD-set-other, getD-set-other) (size-column slot)
-
-cases : {P : Type 0} (b : Bool) → (b ≡ true → P) → (b ≡ false → P) → P
-cases true f g = f refl
-cases false f g = g refl
 
 pub connect-size : (caps : ℕ) → cond (hasBit caps 1) 10 8 ≡ sizeUnder caps (kindAt 1)
 unfolding kinds

@@ -11,6 +11,7 @@ use mathlib.Core.Option.{Option, none, some}
 use lib.ListN.{length, drop}
 use lib.Dec.{eqb, leb, ltb, lit<, lit≤, leb·zero, leb·suc-zero, leb·suc-suc}
 use borrow.Author.Tests.{ltb-false, leb-true, le-leb}
+use borrow.Table.Steps.{cases}
 use Rattle.number.specs.Bits.{hasBit}
 use Rattle.endpoint.specs.declared.Endpoint.{Endpoint}
 use Rattle.header.specs.declared.Side.{Side}
@@ -40,10 +41,6 @@ or-assoc (some a) y z = refl
 place-last : (b : Bool) (a : ℕ) → placeOf (cond b none (some a)) ≡ cond b 65536 a
 place-last true a = refl
 place-last false a = refl
-
-cases : {P : Type 0} (b : Bool) → (b ≡ true → P) → (b ≡ false → P) → P
-cases true f g = f refl
-cases false f g = g refl
 
 pub disconnect : (from : Side) (caps id : ℕ) (body : List ℕ) → Shows from caps id Disconnect body (factsOf 2 0 nowhere 0 0 false (noId id))
 unfolding kinds layout contentOf bad
