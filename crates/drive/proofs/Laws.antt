@@ -11,8 +11,8 @@ use native.Mathlib.Nat.{sub-zero}
 use native.Mathlib.Numerals.{add-one}
 use native.Mathlib.Omega.{arith}
 use borrow.Author.Tests.{le-leb, lt-leb}
-use lib.ListN.{length, take, drop, length-append, length-drop}
-use lib.Seq.{sets, slice, length-sets, take-length, drop-drop}
+use lib.ListN.{length, drop, length-append, length-drop}
+use lib.Seq.{sets, slice, length-sets, drop-drop}
 use Rattle.number.specs.Little.{le, bytesOf}
 use Rattle.number.specs.Laws.{sets-append}
 use Rattle.header.specs.declared.Header.{Header}
@@ -194,10 +194,6 @@ drive-starts e =
       laid = refl;
       to-come = rw (e, sub-zero);
     }
-
--- the part of a list from a place to its end
-pub rest-is : (l : List ℕ) (at : ℕ) → take (length l - at) (drop at l) ≡ drop at l
-rest-is l at = rw (← length-drop) (take-length (drop at l))
 
 module _ {script guest₀ host₀ out₀ guest host out : List ℕ} {s : Session} {at k : ℕ} (p : Driving script guest₀ host₀ out₀ guest host out s at k) where
   abbrev now-run : Run

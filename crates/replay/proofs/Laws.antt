@@ -10,8 +10,8 @@ use native.Mathlib.Nat.{zero-add, add-zero, sub-zero}
 use native.Mathlib.Numerals.{add-one}
 use native.Mathlib.Omega.{arith}
 use borrow.Author.Tests.{le-leb, lt-leb}
-use lib.ListN.{length, take, drop, set, length-set, length-drop}
-use lib.Seq.{sets, slice, take-length, drop-drop}
+use lib.ListN.{length, drop, set, length-set, length-drop}
+use lib.Seq.{sets, slice, drop-drop}
 use Rattle.number.specs.Little.{le}
 use Rattle.header.specs.declared.Side.{Side}
 use Rattle.session.specs.declared.Session.{Session}
@@ -48,10 +48,6 @@ numbers-short (suc n) s rest h = rw (lt-leb (sizeAt rest) (length rest) h)
 numbers-none : (s : Session) (rest : List ℕ) → numbersOf 0 s rest ≡ []
 unfolding numbersOf
 numbers-none s rest = refl
-
--- the part of a list from a place to its end
-pub rest-is : (l : List ℕ) (at : ℕ) → take (length l - at) (drop at l) ≡ drop at l
-rest-is l at = rw (← length-drop) (take-length (drop at l))
 
 -- the next packet, whole: its number is the next to lay, and its session the one to go on with
 numbers-more : (s : Session) (script : List ℕ) (at n : ℕ) {m k : ℕ} {u : Session} → m ≡ sizeAt (drop at script) → m ≤ length (drop at script)

@@ -9,8 +9,8 @@ use native.Mathlib.Omega.{arith}
 use mathlib.Core.Path.{_≡_, refl, sym, ap, _∙_}
 use mathlib.Core.Bool.{true, false}
 use mathlib.Core.List.{List, [], _++_}
-use lib.ListN.{length, take, drop, length-append, length-drop, drop-of-length-le}
-use lib.Seq.{sets, length-sets, take-length, drop-drop}
+use lib.ListN.{length, drop, length-append, length-drop, drop-of-length-le}
+use lib.Seq.{sets, length-sets, drop-drop}
 use borrow.Author.Tests.{eq-eqb, ne-eqb}
 use Rattle.number.specs.Laws.{sets-append}
 use Rattle.header.specs.declared.Header.{Header}
@@ -56,10 +56,6 @@ module _ (from : Side) (r : Reported) (hold rest out : List ℕ) (a : Offered) {
       rw (← e) (record { session = refl; totals = rw g et; size = rw g (es ∙ ap (saturated (r .size)) (p .size)); used = rw g refl; hold = refl; output = rw g (p .output) })
 
 -- ---- a piece
-
--- the part of a list from a place to its end
-pub rest-is : (l : List ℕ) (at : ℕ) → take (length l - at) (drop at l) ≡ drop at l
-rest-is l at = rw (← length-drop) (take-length (drop at l))
 
 -- `at` bytes of the piece are over: the calls still to come, over what there is so far, give what all of them give
 pub record Reporting (from : Side) (r₀ : Reported) (hold₀ piece out₀ hold out : List ℕ) (r : Reported) (at : ℕ) : Type 0 where

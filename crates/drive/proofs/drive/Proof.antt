@@ -6,7 +6,8 @@ use borrow.Author.Needs.{needs}
 use lib.ListN.{length}
 use mathlib.Core.Logic.{⊎-elim}
 use denote.Ref.{now}
-use Rattle.drive.proofs.Laws.{Driving, OffersTo, offers-guest, offers-host, rest-is, drive-starts, drive-goes-on, drive-short, drive-full}
+use borrow.Rule.Slice.PartAt.{part-to-end}
+use Rattle.drive.proofs.Laws.{Driving, OffersTo, offers-guest, offers-host, drive-starts, drive-goes-on, drive-short, drive-full}
 use Rattle.drive.proofs.drive.Statement.{statement}
 use Rattle.drive.proofs.drive.Tie as tie
 
@@ -52,7 +53,7 @@ same-length-3 c = search needs
 returns : tie.Need-returns Inv-loop μ-loop
 returns c =
     let a = c .before .before .before in
-    drive-short (a .before .loop .inv) (rest-is (a .before .before .before .before .before .before .before .args .script .now) (a .before .loop .at)) (c .before .get32 .ensures) (c .if1 .taken)
+    drive-short (a .before .loop .inv) (part-to-end (a .before .before .before .before .before .before .before .args .script .now) (a .before .loop .at)) (c .before .get32 .ensures) (c .if1 .taken)
 
 get8-requires : tie.Need-get8-requires Inv-loop μ-loop
 get8-requires c κs = search needs
@@ -112,7 +113,7 @@ loop-again c =
     let m = c .before .before .before .before .before .before in
     let i = m .before .before .before .before in
     let a = i .before .before .before in
-    drive-goes-on (a .before .loop .inv) (a .loop-test .taken) (rest-is (a .before .before .before .before .before .before .before .args .script .now) (a .before .loop .at)) (i .before .get32 .ensures) (i .if1 .left) (m .before .before .before .get8 .ensures) (m .before .before .sender-of .ensures) (m .before .part .ensures) (offered m) (c .before .before .put-record .ensures)
+    drive-goes-on (a .before .loop .inv) (a .loop-test .taken) (part-to-end (a .before .before .before .before .before .before .before .args .script .now) (a .before .loop .at)) (i .before .get32 .ensures) (i .if1 .left) (m .before .before .before .get8 .ensures) (m .before .before .sender-of .ensures) (m .before .part .ensures) (offered m) (c .before .before .put-record .ensures)
 
 same-length-4 : tie.Need-same-length-4 Inv-loop μ-loop
 same-length-4 c = search needs

@@ -4,7 +4,8 @@ use Prim.Native.Nat.{_+_, _-_, _<_, _^_}
 use native.Mathlib.Omega.{arith}
 use borrow.Author.Needs.{needs}
 use lib.ListN.{length}
-use Rattle.replay.proofs.Laws.{Replaying, rest-is, replay-starts, replay-goes-on, replay-short, replay-full}
+use borrow.Rule.Slice.PartAt.{part-to-end}
+use Rattle.replay.proofs.Laws.{Replaying, replay-starts, replay-goes-on, replay-short, replay-full}
 use Rattle.replay.proofs.replay.Statement.{statement}
 use Rattle.replay.proofs.replay.Tie as tie
 
@@ -44,7 +45,7 @@ same-length c = search needs
 returns : tie.Need-returns Inv-loop μ-loop
 returns c =
     let a = c .before .before .before in
-    replay-short (a .before .loop .inv) (rest-is (a .before .before .before .before .before .args .script .now) (a .before .loop .at)) (c .before .get16 .ensures) (c .if1 .taken)
+    replay-short (a .before .loop .inv) (part-to-end (a .before .before .before .before .before .args .script .now) (a .before .loop .at)) (c .before .get16 .ensures) (c .if1 .taken)
 
 get8-requires : tie.Need-get8-requires Inv-loop μ-loop
 get8-requires c κs = search needs
@@ -77,7 +78,7 @@ loop-less c = search needs
 loop-again : tie.Need-loop-again Inv-loop μ-loop
 loop-again c =
     let a = c .before .before .before .before .before .before .before .before in
-    replay-goes-on (a .before .loop .inv) (c .before .verdict-of .result) (a .loop-test .taken) (rest-is (a .before .before .before .before .before .args .script .now) (a .before .loop .at)) (c .before .before .before .before .before .before .get16 .ensures) (c .before .before .before .before .before .if1 .left) (c .before .before .before .before .get8 .ensures) (c .before .before .before .sender-of .ensures) (c .before .before .part .ensures) (c .before .verdict-of .ensures)
+    replay-goes-on (a .before .loop .inv) (c .before .verdict-of .result) (a .loop-test .taken) (part-to-end (a .before .before .before .before .before .args .script .now) (a .before .loop .at)) (c .before .before .before .before .before .before .get16 .ensures) (c .before .before .before .before .before .if1 .left) (c .before .before .before .before .get8 .ensures) (c .before .before .before .sender-of .ensures) (c .before .before .part .ensures) (c .before .verdict-of .ensures)
 
 same-length-2 : tie.Need-same-length-2 Inv-loop μ-loop
 same-length-2 c = search needs

@@ -6,8 +6,9 @@ use native.Mathlib.Omega.{arith}
 use borrow.Author.Needs.{needs}
 use lib.ListN.{length}
 use lib.Seq.{length-sets}
+use borrow.Rule.Slice.PartAt.{part-to-end}
 use Rattle.capture.specs.Lines.{largest}
-use Rattle.transcript.proofs.Laws.{Reporting, rest-is, report-starts, used-few, used-more, report-goes-on, report-ends}
+use Rattle.transcript.proofs.Laws.{Reporting, report-starts, used-few, used-more, report-goes-on, report-ends}
 use Rattle.transcript.proofs.report_piece.Statement.{statement}
 use Rattle.transcript.proofs.report_piece.Tie as tie
 
@@ -43,20 +44,20 @@ add-at : tie.Need-add-at Inv-loop μ-loop
 add-at c =
     let d = c .before .before .before .before .before .before in
     let l = d .before .before .before .before .before in
-    omega (arith, piece-counts (l .before .before), used-few (l .loop .inv .0) (d .before .before .before .before .loop-test .taken) (rest-is (l .before .before .before .before .args .piece .now) (l .loop .at)) (d .report-call .ensures))
+    omega (arith, piece-counts (l .before .before), used-few (l .loop .inv .0) (d .before .before .before .before .loop-test .taken) (part-to-end (l .before .before .before .before .args .piece .now) (l .loop .at)) (d .report-call .ensures))
 
 loop-less : tie.Need-loop-less Inv-loop μ-loop
 loop-less c =
     let d = c .before .before .before .before .before .before in
     let l = d .before .before .before .before .before in
-    let e = rest-is (l .before .before .before .before .args .piece .now) (l .loop .at) in
+    let e = part-to-end (l .before .before .before .before .args .piece .now) (l .loop .at) in
     omega (arith, d .before .before .before .before .loop-test .taken, used-more (l .loop .inv .0) (d .before .before .before .before .loop-test .taken) e (d .report-call .ensures))
 
 loop-again : tie.Need-loop-again Inv-loop μ-loop
 loop-again c =
     let d = c .before .before .before .before .before .before in
     let l = d .before .before .before .before .before in
-    let e = rest-is (l .before .before .before .before .args .piece .now) (l .loop .at) in
+    let e = part-to-end (l .before .before .before .before .args .piece .now) (l .loop .at) in
     (report-goes-on (l .loop .inv .0) (d .before .before .before .before .loop-test .taken) e (d .report-call .ensures) (out-counts (l .before)), d .report-call .kept .1 .1 .0 ∙ l .loop .inv .1)
 
 same-length : tie.Need-same-length Inv-loop μ-loop
