@@ -6,11 +6,11 @@
 use mathlib.Core.Path.{_≡_, refl, sym, ap, _∙_}
 use mathlib.Core.List.{List, [], _∷_}
 use Prim.Native.Nat.{ℕ, zero, suc, _+_, _-_, _*_, _/_, _%_, _^_, _≤_, _<_, min}
-use native.Mathlib.Nat.{pow-suc, pow-le-pow-right, zero-lt-suc, zero-min, min-zero, suc-min-suc, sub-zero, zero-sub, suc-sub-suc}
+use native.Mathlib.Nat.{pow-suc, pow-le-pow-right, zero-lt-suc, zero-min, min-zero, suc-min-suc}
 use native.Mathlib.Numerals.{add-one}
 use native.Mathlib.Omega.{arith}
 use lib.ListN.{length, getD, set, take, drop, length-take, drop-of-length-le}
-use lib.Seq.{sets, slice, drop-cons, set-out, take-nil}
+use lib.Seq.{sets, slice, drop-cons, set-out}
 use lib.Dec.{leb}
 use borrow.Author.Tests.{leb-true, leb-false}
 use borrow.Table.Steps.{cases}
@@ -70,13 +70,6 @@ pub drop-min : (n : ℕ) (s : List ℕ) → drop (min n (length s)) s ≡ drop n
 drop-min zero s = rw zero-min
 drop-min (suc n) [] = rw min-zero
 drop-min (suc n) (x ∷ s) = rw suc-min-suc (drop-min n s)
-
--- the two ways to cut a part out of the middle
-pub drop-take : (a e : ℕ) (s : List ℕ) → take (e - a) (drop a s) ≡ drop a (take e s)
-drop-take zero e s = rw sub-zero
-drop-take (suc a) zero s = rw zero-sub
-drop-take (suc a) (suc e) [] = rw take-nil
-drop-take (suc a) (suc e) (x ∷ s) = rw suc-sub-suc (drop-take a e s)
 
 -- a part goes no further than there is
 pub slice-min : (a e : ℕ) (s : List ℕ) → slice (min a (min e (length s))) (min e (length s)) s ≡ slice a e s

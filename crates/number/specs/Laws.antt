@@ -6,10 +6,10 @@
 use mathlib.Core.Path.{_≡_, refl, sym, ap, ap₂, _∙_}
 use mathlib.Core.List.{List, [], _∷_, _++_}
 use Prim.Native.Nat.{ℕ, zero, suc, _+_, _-_, _*_, _/_, _%_, _^_, _≤_, _<_}
-use native.Mathlib.Nat.{pow-suc, zero-add, suc-add, add-suc, add-zero}
+use native.Mathlib.Nat.{pow-suc, zero-add, suc-add, add-suc, add-zero, sub-zero, zero-sub, suc-sub-suc}
 use native.Mathlib.Omega.{arith}
-use lib.ListN.{length, getD, set, drop, List·getD-append}
-use lib.Seq.{sets, getD-drop}
+use lib.ListN.{length, getD, set, drop, List·getD-append, take}
+use lib.Seq.{sets, getD-drop, take-nil}
 use lib.Dec.{lit<}
 use Rattle.number.specs.Little.{le, bytesOf}
 
@@ -59,3 +59,10 @@ pub le-front : (n : ℕ) (a b : List ℕ) (at : ℕ) → at + n ≤ length a →
 le-front zero a b at h = refl
 le-front (suc n) a b at h =
     ap₂ (λ (x y : ℕ). x + 256 * y) (List·getD-append a b 0 at (omega arith)) (le-front n a b (suc at) (omega arith))
+
+-- the two ways to cut a part out of the middle
+pub drop-take : (a e : ℕ) (s : List ℕ) → drop a (take e s) ≡ take (e - a) (drop a s)
+drop-take zero e s = rw sub-zero
+drop-take (suc a) zero s = rw zero-sub
+drop-take (suc a) (suc e) [] = rw take-nil
+drop-take (suc a) (suc e) (x ∷ s) = rw suc-sub-suc (drop-take a e s)

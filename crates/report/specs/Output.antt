@@ -4,15 +4,16 @@
 -- out, and a read leaves all three as they are. At the end the totals are left.
 -- What the code hands to C's write is `writtenIn` by its text, `&out[..size]`:
 -- that is no contract's to say. Assumes nothing.
-use Prim.Native.Nat.{ℕ, zero, suc, _+_, _-_, _≤_, _<_, min}
+use Prim.Native.Nat.{ℕ, suc, _+_, _-_, _≤_, _<_, min}
 use native.Mathlib.Omega.{arith}
 use mathlib.Core.Path.{_≡_, refl, sym, ap, _∙_}
 use mathlib.Core.Bool.{Bool, true, false, cond, _&&_, _||_, false≢true}
-use mathlib.Core.List.{List, [], _∷_, _++_, append-assoc, append-nil}
+use mathlib.Core.List.{List, [], _++_, append-assoc, append-nil}
 use lib.ListN.{length, take, drop, length-take, length-append, take-append-drop}
-use lib.Seq.{sets, sets-eq, length-sets, length-take-le, take-at, take-take, take-nil, drop-drop}
+use lib.Seq.{sets, sets-eq, length-sets, length-take-le, take-at, take-take, drop-drop}
 use lib.Dec.{ltb}
 use borrow.Author.Tests.{ltb-true, ltb-false}
+use Rattle.number.specs.Laws.{drop-take}
 use Rattle.capture.specs.Laws.{totals-short}
 use Rattle.transcript.specs.declared.Next.the-variants.{Line}
 use Rattle.transcript.specs.Input.{Progress, linesOf, totalsOf, outputFrom, outputOf, nextOf, start as started}
@@ -78,18 +79,6 @@ stored-behind l xs i h =
     let n : length (take i l ++ xs) ≡ i + length xs = omega (arith, length-append (take i l) xs, length-take-le i l (omega arith)) in
     ap (take (i + length xs)) (sets-eq xs l i h)
     ∙ take-at (take i l ++ xs) (drop (i + length xs) l) (i + length xs) n
-
-drop-take : (n m : ℕ) (l : List ℕ) → drop n (take m l) ≡ take (m - n) (drop n l)
-drop-take zero m l =
-    let e : m - 0 ≡ m = omega arith in
-    rw e
-drop-take (suc n) zero l =
-    let e : 0 - suc n ≡ 0 = omega arith in
-    rw e
-drop-take (suc n) (suc m) [] = sym (take-nil (suc m - suc n))
-drop-take (suc n) (suc m) (x ∷ l) =
-    let e : suc m - suc n ≡ m - n = omega arith in
-    rw e (drop-take n m l)
 
 -- the bytes behind a line and its newline
 behind-line : (l : List ℕ) (a b k : ℕ) → drop (suc k) (take (b - a) (drop a l)) ≡ take (b - min (a + k + 1) b) (drop (min (a + k + 1) b) l)

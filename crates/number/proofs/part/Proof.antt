@@ -1,10 +1,11 @@
 -- `number::part` meets its contract: the bounds are cut to what there is, and a slice has no more either.
 -- Assumes nothing.
-use mathlib.Core.Path.{_∙_}
+use mathlib.Core.Path.{_∙_, sym}
 use borrow.Author.Needs.{needs}
-use Rattle.number.proofs.Laws.{drop-take, slice-min}
+use Rattle.number.proofs.Laws.{slice-min}
 use Rattle.number.proofs.part.Statement.{statement}
 use Rattle.number.proofs.part.Tie as tie
+use Rattle.number.specs.Laws.{drop-take}
 
 minimum-requires : tie.Need-minimum-requires
 minimum-requires c κs = search needs
@@ -24,7 +25,7 @@ part-result-end c = search needs
 returns : tie.Need-returns
 returns c =
     let a = c .before .before .before .before .args in
-    drop-take (c .before .minimum2 .result) (c .before .before .minimum .result) (a .s .now)
+    sym (drop-take (c .before .minimum2 .result) (c .before .before .minimum .result) (a .s .now))
     ∙ rw (c .before .minimum2 .ensures, c .before .before .minimum .ensures) (slice-min (a .a) (a .e) (a .s .now))
 
 pub part-spec : {M : Type 1} → statement M
