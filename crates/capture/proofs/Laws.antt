@@ -15,11 +15,12 @@ use lib.ListN.{length, replicate, getD, set, take, drop, length-append, length-d
 use lib.Seq.{sets, slice, take-length, take-all, drop-cons, set-out, drop-set-lt, getD-set-same, length-sets}
 use lib.Dec.{eqb, leb, ltb}
 use Rattle.number.specs.Laws.{sets-append}
+use Rattle.number.specs.Logic.{and-parts}
 use Rattle.header.specs.declared.Side.{Side}
 use Rattle.header.specs.declared.Side.the-variants.{Guest, Host}
 use Rattle.capture.specs.declared.Line.{Line}
 use Rattle.capture.specs.declared.Line.the-variants.{Bad, Piece}
-use Rattle.capture.specs.Laws.{both, length-spelt}
+use Rattle.capture.specs.Laws.{length-spelt}
 use Rattle.capture.specs.Lines.{startOf, isSpelling, pieceOf, lineOf, Decodes, startsWith, between, isHex, allHex, hexValue, spelt, digits, decimal, largest, Adds, Forms}
 
 -- ---- a prefix
@@ -48,7 +49,7 @@ prefix-short (x ∷ p) (b ∷ l) h = rw (prefix-short p l (omega arith)) (and-fa
 
 pub between-true : (first last b : ℕ) → between first last b ≡ true → (first ≤ b) × (b ≤ last)
 between-true first last b e =
-    let t = both (leb first b) (leb b last) e in
+    let t = and-parts (leb first b) (leb b last) e in
     (leb-true first b (t .0), leb-true b last (t .1))
 
 module _ (s : List ℕ) (i : ℕ) where

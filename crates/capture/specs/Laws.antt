@@ -6,7 +6,7 @@
 -- Assumes nothing.
 use Prim.Native.Nat.{ℕ, zero, suc, _+_, _/_, _%_, _≤_}
 use mathlib.Core.Path.{_≡_, refl, sym, ap, _∙_}
-use mathlib.Core.Bool.{Bool, true, false, cond, _&&_, false≢true}
+use mathlib.Core.Bool.{Bool, true, false, cond, _&&_}
 use mathlib.Core.List.{List, [], _∷_, _++_}
 use mathlib.Core.Option.{Option, none, some}
 use native.Mathlib.Omega.{arith}
@@ -14,6 +14,7 @@ use borrow.Author.Tests.{leb-true}
 use lib.ListN.{length, take, drop, length-append}
 use lib.Seq.{sets-eq, take-at}
 use lib.Dec.{eqb, leb, ltb}
+use Rattle.number.specs.Logic.{and-parts}
 use Rattle.header.specs.declared.Side.{Side}
 use Rattle.header.specs.declared.Side.the-variants.{Guest, Host}
 use Rattle.capture.specs.declared.Line.{Line}
@@ -21,10 +22,6 @@ use Rattle.capture.specs.declared.Line.the-variants.{Bad, Piece}
 use Rattle.capture.specs.Lines.{sideField, startOf, startsWith, allHex, isSpelling, spelt, Offered, pieceOf, lineOf, toldOf, laidOf, Decodes, digits, answerLine, totalsLine}
 
 -- ---- input lines
-
-pub both : (a b : Bool) → (a && b) ≡ true → (a ≡ true) × (b ≡ true)
-both true b e = (refl, e)
-both false b e = absurd (false≢true e)
 
 pub length-spelt : (s : List ℕ) → length (spelt s) ≡ length s / 2
 unfolding spelt
@@ -41,7 +38,7 @@ piece-short : (from : Side) (s : List ℕ) → length (offeredBytes (pieceOf fro
 piece-short from s = go (isSpelling s) refl
   where
     go : (b : Bool) → isSpelling s ≡ b → length (offeredBytes (cond b (some (record { from = from; bytes = spelt s })) none)) ≤ 2048
-    go true e = omega (arith, leb-true (length s) 4096 (both (allHex s && eqb (length s % 2) 0) (leb (length s) 4096) e .1), length-spelt s)
+    go true e = omega (arith, leb-true (length s) 4096 (and-parts (allHex s && eqb (length s % 2) 0) (leb (length s) 4096) e .1), length-spelt s)
     go false e = omega arith
 
 -- a piece has at most 2,048 bytes

@@ -14,6 +14,7 @@ use lib.ListN.{length}
 use lib.Dec.{eqb, leb}
 use borrow.Author.Tests.{eqb-true, eq-eqb}
 use borrow.Table.Steps.{cases}
+use Rattle.number.specs.Logic.{and-parts, and-whole, failing, or-none, false-not}
 use Rattle.endpoint.specs.declared.Endpoint.{Endpoint}
 use Rattle.header.specs.declared.Side.{Side}
 use Rattle.header.specs.declared.Side.the-variants.{Guest, Host}
@@ -35,11 +36,10 @@ use Rattle.checks.specs.Checks.{traitsOf, isSome, mistypedBy, isOpen, matchIn, 
 use Rattle.session.specs.declared.Session.{Session}
 use Rattle.session.specs.Session.{linkOf}
 use Rattle.session.specs.Step.{scopeOf, nextFor, judged}
-use Rattle.scan.specs.Logic.{and-parts, and-whole, failing, or-none, false-not}
 use Rattle.claims.specs.Allowed.{among, oneOf, isRequest, isReply, answersKind, carriesTarget, inwardOf, countOf, requestOf, Answers, Unsolicited, Allowed}
 use Rattle.claims.specs.Agree.{factsOf, factsBy, agrees}
 use Rattle.claims.specs.Passes.{holds-none, passes, answers-to, match-is, alone-to, reply-from, unsolicited-is}
-use Rattle.claims.specs.Steps.{after, number-is, request-takes, clean, from-host, reply-does, none-held, Freed, reply-frees, unmatched-keeps, NoLive, answered-once, late-reply}
+use Rattle.claims.specs.Steps.{number-is, request-takes, clean, from-host, reply-does, none-held, Freed, reply-frees, unmatched-keeps, NoLive, answered-once, late-reply}
 
 -- ---- what is said of a request
 

@@ -12,6 +12,7 @@ use lib.ListN.{length, getD, drop}
 use lib.Dec.{eqb}
 use borrow.Author.Tests.{eqb-true}
 use borrow.Table.Steps.{cases}
+use Rattle.number.specs.Logic.{and-whole, fails}
 use Rattle.endpoint.specs.declared.Endpoint.{Endpoint}
 use Rattle.header.specs.declared.Side.{Side}
 use Rattle.header.specs.declared.Hello.{Hello}
@@ -47,7 +48,6 @@ use Rattle.checks.specs.Checks.{traitsOf, isSome, matchOf}
 use Rattle.session.specs.declared.Session.{Session}
 use Rattle.session.specs.Session.{freshSession, linkOf, isShared, unfit}
 use Rattle.session.specs.Step.{keptHello, isHello, streamBy, opens, scopeOf, replyRows, deviceAfter, takenAt, answered, nextFor, judged}
-use Rattle.scan.specs.Logic.{and-whole, fails}
 use Rattle.claims.specs.Steps.{after, step, none-held, Role, leaving, asking, answering, ending, roleOf, requestsBy, Does, does, next-requests, Clean, clean}
 
 -- ---- the requests

@@ -15,6 +15,7 @@ use lib.Dec.{eqb}
 use borrow.Author.Tests.{eqb-true, eqb-false}
 use borrow.Table.Steps.{cases}
 use Rattle.number.specs.Little.{le}
+use Rattle.number.specs.Logic.{and-parts, failing, or-none}
 use Rattle.endpoint.specs.declared.Endpoint.{Endpoint}
 use Rattle.endpoint.specs.declared.RowOf.{RowOf}
 use Rattle.endpoint.specs.declared.RowOf.the-variants.{At, Malformed}
@@ -28,7 +29,6 @@ use Rattle.kinds.specs.Content.{Value, Content}
 use Rattle.kinds.specs.Codec.{layout}
 use Rattle.kinds.specs.Number.{isGuest, wireNumber}
 use Rattle.rows.specs.Rows.{column, element}
-use Rattle.scan.specs.Logic.{and-parts, failing, or-none}
 use Rattle.scan.specs.Laws.{first-found, getD-set, each-at}
 use Rattle.device.specs.declared.RowState.{RowState}
 use Rattle.device.specs.declared.Rows.{Rows}

@@ -13,6 +13,7 @@ use lib.Dec.{eqb, leb}
 use borrow.Author.Tests.{eqb-true, eq-eqb, ne-eqb, leb-true, le-leb, le-ltb, ltb-false, not-true, not-false}
 use borrow.Table.Steps.{cases}
 use Rattle.number.specs.Bits.{hasBit}
+use Rattle.number.specs.Logic.{and-parts, and-whole, fails, failing, implied, implying, or-parts, or-none, false-not, true-not}
 use Rattle.header.specs.declared.Side.{Side}
 use Rattle.header.specs.declared.Side.the-variants.{Guest, Host}
 use Rattle.kinds.specs.Table.{Kind, kinds}
@@ -39,7 +40,6 @@ use Rattle.checks.specs.declared.Match.{Match}
 use Rattle.checks.specs.declared.Match.the-variants.{Unmatched, Matched}
 use Rattle.checks.specs.Checks.{traitsOf, isSome, noDevice, ackOwed, isBegun, isDone, outOfOrder, mistypedBy, wrongType, isTransfer, settling, isOpen, streamClosed, idInUse, isFull, matchIn, matchOf, isUnsolicited, noSuchRequest, tooLong, numberFor, numberOf}
 use Rattle.session.specs.declared.Session.{Session}
-use Rattle.scan.specs.Logic.{and-parts, and-whole, fails, failing, implied, implying, or-parts, or-none, false-not, true-not}
 use Rattle.claims.specs.Allowed.{among, oneOf, isRequest, isReply, answersKind, carriesTarget, wants, onStream, endpointOf, inwardOf, replyTarget, countOf, Answers, Unsolicited, Allowed}
 use Rattle.claims.specs.Agree.{factsOf, factsBy, disordered, rowBy, typedBy, answersBy, agrees}
 

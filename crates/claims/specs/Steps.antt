@@ -15,6 +15,7 @@ use lib.ListN.{length, getD, replicate}
 use lib.Dec.{eqb}
 use borrow.Author.Tests.{eqb-true, eqb-false, eq-eqb, ltb-false, not-true, not-false}
 use borrow.Table.Steps.{cases}
+use Rattle.number.specs.Logic.{and-parts, and-whole, fails}
 use Rattle.header.specs.declared.Side.{Side}
 use Rattle.header.specs.declared.Side.the-variants.{Guest, Host}
 use Rattle.header.specs.declared.Link.{Link}
@@ -40,7 +41,6 @@ use Rattle.checks.specs.declared.Match.the-variants.{Unmatched, Matched}
 use Rattle.checks.specs.Checks.{traitsOf, isSome, outOfOrder, matchIn, matchOf, isUnmatched, isUnsolicited, tooLong, numberFor, numberOf}
 use Rattle.session.specs.declared.Session.{Session}
 use Rattle.session.specs.Step.{scopeOf, asked, takenAt, answered, requestsAfter, nextFor, judged}
-use Rattle.scan.specs.Logic.{and-parts, and-whole, fails}
 use Rattle.claims.specs.Allowed.{among, isReply, inwardOf}
 use Rattle.claims.specs.Agree.{Facts, agrees}
 use Rattle.claims.specs.Passes.{NoneHolds, none-holds, at-some}

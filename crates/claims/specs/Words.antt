@@ -2,14 +2,14 @@
 -- which rows have to be control. Each by taking its test apart.
 -- Assumes nothing.
 use Prim.Native.Nat.{ℕ}
-use mathlib.Core.Bool.{Bool, true, false, not, _&&_, _||_, or-false, false≢true}
+use mathlib.Core.Bool.{Bool, true, false, not, _||_, or-false, false≢true}
 use mathlib.Core.List.{[], _∷_}
 use mathlib.Core.Logic.{_↔_}
 use mathlib.Core.Path.{_≡_, refl, sym, ap, _∙_}
 use lib.ListN.{getD}
 use lib.Dec.{eqb}
 use borrow.Author.Tests.{eqb-true, eqb-false, eq-eqb, ne-eqb, not-true}
-use Rattle.scan.specs.Logic.{and-parts, and-whole, or-parts, or-none, true-not}
+use Rattle.number.specs.Logic.{and-parts, and-whole, or-parts, or-none, true-not}
 use Rattle.endpoint.specs.declared.Endpoint.{Endpoint}
 use Rattle.endpoint.specs.declared.Row.{Row}
 use Rattle.endpoint.specs.declared.RowOf.{RowOf}

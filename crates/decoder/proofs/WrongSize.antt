@@ -14,6 +14,7 @@ use lib.Dec.{eqb, leb, ltb}
 use borrow.Author.Tests.{lt-leb, ltb-true, ltb-false, ne-eqb, not-true, not-false}
 use borrow.Table.Steps.{cases}
 use Rattle.number.specs.Bits.{hasBit}
+use Rattle.number.specs.Logic.{and-parts, or-parts}
 use Rattle.header.specs.declared.Link.{Link}
 use Rattle.header.specs.declared.Side.{Side}
 use Rattle.header.specs.Link.{sharedSet, idWidth}
@@ -21,7 +22,7 @@ use Rattle.kinds.specs.Table.{Field, Tail, nothing, words, string, payload, pay
 use Rattle.kinds.specs.Content.{Value, Content, shared, sizeOf, size, whole, split, fieldsOf}
 use Rattle.kinds.specs.Number.{sends, surplus, wideId, complete, tailOk, sizeOk, bad, isNone, streamsAlone, inOrder, kindNumber, byKind, wireNumber}
 use Rattle.kinds.specs.Codec.{layout, contentAt}
-use Rattle.kinds.specs.Laws.{wide-id, complete-split, or-left, or-right, and-left, and-right}
+use Rattle.kinds.specs.Laws.{wide-id, complete-split}
 use Rattle.decoder.specs.Reading.{isNothing, carries}
 use Rattle.decoder.specs.Body.{Fits, misfitNumber}
 use Rattle.kinds.specs.Slots.{found, only-hello}
@@ -90,7 +91,7 @@ module _ (l : Link) (slot id : ℕ) (body : List ℕ) (small : slot < 33) (fits 
       let k : Kind = kindAt slot in
       let q : Content = contentAt caps (k .number) id body in
       let f : layout (k .number) ≡ k .fields = ap fieldsOf (found slot small) in
-      let t : isNothing (k .tail) ≡ true = not-false (isNothing (k .tail)) (or-left (not (isNothing (k .tail))) _ c) in
+      let t : isNothing (k .tail) ≡ true = not-false (isNothing (k .tail)) (or-parts (not (isNothing (k .tail))) _ c .0) in
       let r : length (q .rest) ≡ length body - size (shared caps) (k .fields) =
       (λ i. length (drop (size (shared caps) (f i)) body)) ∙ length-drop (size (shared caps) (k .fields)) body in
       and-false (complete (k .fields) (q .fields)) _
@@ -103,7 +104,7 @@ module _ (l : Link) (slot id : ℕ) (body : List ℕ) (small : slot < 33) (fits 
       let m : ℕ = size (shared (sharedSet l)) (kindAt slot .fields) in
       of-size (cases (ltb n m) (λ e. too-short (ltb-true n m e))
       (λ e. let b : (not (carries (kindAt slot)) && ltb m n) ≡ true = ap (λ (t : Bool). t || (not (carries (kindAt slot)) && ltb m n)) (sym e) ∙ h in
-      too-long (not-true (carries (kindAt slot)) (and-left (not (carries (kindAt slot))) (ltb m n) b)) (ltb-true m n (and-right (not (carries (kindAt slot))) (ltb m n) b))))
+      too-long (not-true (carries (kindAt slot)) (and-parts (not (carries (kindAt slot))) (ltb m n) b .0)) (ltb-true m n (and-parts (not (carries (kindAt slot))) (ltb m n) b .1))))
 
 -- it is never 0
 refused-by : (a b : Bool) → inOrder a b true false false ≡ 0 → ⊥
@@ -126,12 +127,12 @@ fits caps slot body small h =
     let n : ℕ = length body in
     let m : ℕ = size (shared caps) (kindAt slot .fields) in
     let c : Bool = carries (kindAt slot) in
-    let l : m ≤ n = ltb-false n m (or-left (ltb n m) (not c && ltb m n) h) in
+    let l : m ≤ n = ltb-false n m (or-parts (ltb n m) (not c && ltb m n) h .0) in
     record {
       small = small;
       there = l;
       exact = λ e.
-          let t : ltb m n ≡ false = rw e at (or-right (ltb n m) (not c && ltb m n) h) in
+          let t : ltb m n ≡ false = rw e at (or-parts (ltb n m) (not c && ltb m n) h .1) in
           let r : n ≤ m = ltb-false m n t in
           omega arith;
     }

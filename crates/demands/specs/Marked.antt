@@ -1,7 +1,7 @@
 -- Document 01's marked examples, M1 to M11: one list of examples under one claim, about the definitions that the contracts of the reader
 -- and the writer cite. Each gives numbers: bytes put out, and the numbers of reader calls.
 -- Assumes nothing.
-use Prim.Native.Nat.{ℕ, zero, suc, _+_}
+use Prim.Native.Nat.{ℕ, zero, suc}
 use Prim.Native.String.{String}
 use mathlib.Core.Bool.{true, false}
 use mathlib.Core.List.{List, [], _∷_, _++_}

@@ -19,7 +19,7 @@ use Rattle.rows.specs.Rows.{wordOf as rowsWord}
 use Rattle.device.specs.Device.{control, iso, bulk, interrupt, invalid}
 use Rattle.events.specs.declared.Class.{Class}
 use Rattle.events.specs.declared.Class.the-variants.{Hello, Connect, Interfaces, Endpoints, Disconnect, Reset, Ack, Cancel, Filter, StartRequest, PlainRequest, StreamStatus, PlainReply, StreamData}
-use Rattle.events.specs.Meaning.{Who, sender, guest, host, host-in, Line, meanings, admits, lookUp}
+use Rattle.events.specs.Meaning.{Who, sender, guest, host-in, Line, meanings, admits, lookUp}
 use Rattle.events.specs.Event.{eventOf}
 
 -- ---- lines by their class

@@ -5,7 +5,7 @@
 -- it stands (`split-full`); and what is read off bytes fits (`fitting-split`).
 -- Assumes nothing.
 use mathlib.Core.Path.{_≡_, refl, sym, ap, subst, _∙_}
-use mathlib.Core.Bool.{Bool, true, false, cond, not, _&&_, _||_, false≢true}
+use mathlib.Core.Bool.{Bool, true, false, cond, not, _&&_, false≢true}
 use mathlib.Core.List.{List, [], _∷_, _++_, append-assoc}
 use mathlib.Core.Option.{Option, none, some}
 use Prim.Native.Nat.{ℕ, zero, suc, _+_, _-_, _*_, _^_, _≤_, _<_}
@@ -18,28 +18,13 @@ use borrow.Author.Tests.{eqb-true, le-leb, lt-leb, leb-true, leb-false, eq-eqb}
 use Rattle.header.specs.declared.Side.{Side}
 use Rattle.number.specs.Little.{bytesOf}
 use Rattle.number.specs.Laws.{le-bytes, le-shift, le-lt, length-bytes}
+use Rattle.number.specs.Logic.{and-parts, or-parts}
 use Rattle.kinds.specs.Table.{Bits, Field}
 use Rattle.kinds.specs.Content.{Value, shared, sizeOf, size, numbers, whole, split, bytesOfAll, bytesOfValue, bytes}
 use Rattle.kinds.specs.Number.{surplus, complete, holds, firstBad, badField, badFields, isNone, orElse}
 use Rattle.kinds.specs.Codec.{Below, Fitting}
 
 -- ---- tests
-
-pub and-left : (a b : Bool) → (a && b) ≡ true → a ≡ true
-and-left true b e = refl
-and-left false b e = e
-
-pub and-right : (a b : Bool) → (a && b) ≡ true → b ≡ true
-and-right true b e = e
-and-right false b e = absurd (false≢true e)
-
-pub or-left : (a b : Bool) → (a || b) ≡ false → a ≡ false
-or-left true b e = e
-or-left false b e = refl
-
-pub or-right : (a b : Bool) → (a || b) ≡ false → b ≡ false
-or-right true b e = absurd (false≢true (sym e))
-or-right false b e = e
 
 pub isNone-left : (x y : Option ℕ) → isNone (orElse x y) ≡ true → isNone x ≡ true
 isNone-left none y e = refl
@@ -84,10 +69,10 @@ fit from caps e (f ∷ fs) (none ∷ vs) at t c s b =
 fit from caps e (f ∷ fs) (some xs ∷ vs) at t c s b =
     let x : Option ℕ = badField from caps e f (some xs) at in
     let y : Option ℕ = badFields from caps e fs vs (at + sizeOf (shared caps) f) in (
-      present-some (shared caps (f .there)) (f .width) (f .times) xs (t .0) (or-left (not (shared caps (f .there))) (surplus caps fs vs) s)
-          (and-left (eqb (length xs) (f .times)) (complete fs vs) c),
-      fit from caps e fs vs (at + sizeOf (shared caps) f) (t .1) (and-right (eqb (length xs) (f .times)) (complete fs vs) c)
-          (or-right (not (shared caps (f .there))) (surplus caps fs vs) s) (isNone-right x y b),
+      present-some (shared caps (f .there)) (f .width) (f .times) xs (t .0) (or-parts (not (shared caps (f .there))) (surplus caps fs vs) s .0)
+          (and-parts (eqb (length xs) (f .times)) (complete fs vs) c .0),
+      fit from caps e fs vs (at + sizeOf (shared caps) f) (t .1) (and-parts (eqb (length xs) (f .times)) (complete fs vs) c .1)
+          (or-parts (not (shared caps (f .there))) (surplus caps fs vs) s .1) (isNone-right x y b),
     )
 
 -- ---- the numbers of a field

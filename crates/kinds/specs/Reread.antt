@@ -7,7 +7,7 @@ use mathlib.Core.Path.{_≡_, refl, sym, ap, _∙_}
 use mathlib.Core.Bool.{Bool, true, false, not, _||_}
 use mathlib.Core.List.{List, _++_}
 use mathlib.Core.Option.{Option, none, some}
-use Prim.Native.Nat.{ℕ, _+_, _-_, _^_, _≤_, _<_}
+use Prim.Native.Nat.{ℕ, _+_, _^_, _≤_, _<_}
 use native.Mathlib.Nat.{add-zero}
 use native.Mathlib.Omega.{arith}
 use lib.ListN.{length, drop, length-drop}
@@ -16,15 +16,16 @@ use lib.Dec.{eqb, ltb}
 use borrow.Author.Tests.{eqb-true, leb-true, not-false}
 use Rattle.number.specs.Little.{le, bytesOf}
 use Rattle.number.specs.Laws.{le-drop, le-lt}
+use Rattle.number.specs.Logic.{and-parts}
 use Rattle.header.specs.declared.Link.{Link}
 use Rattle.header.specs.Link.{sharedSet, idWidth}
 use Rattle.header.specs.Header.{kindOf, lengthOf, idOf, headerSize, headerBytes, headerNumber}
 use Rattle.header.specs.Laws.{id-widths}
 use Rattle.kinds.specs.Table.{Kind, kinds}
-use Rattle.kinds.specs.Content.{Content, shared, size, split, bytes, find, fieldsOf}
+use Rattle.kinds.specs.Content.{Content, shared, size, split, find, fieldsOf}
 use Rattle.kinds.specs.Number.{sends, surplus, wideId, complete, tailOk, sizeOk, bad, isNone, streamsAlone, kindNumber, wireNumber}
 use Rattle.kinds.specs.Codec.{layout, contentAt, decode, readNumber, bodyOf, encode, bodyLength, packetNumber, Accepted}
-use Rattle.kinds.specs.Laws.{and-left, complete-split, fitting-split}
+use Rattle.kinds.specs.Laws.{complete-split, fitting-split}
 use Rattle.kinds.specs.RoundTrip.{none-holds, both-zero}
 use Rattle.kinds.specs.Again.{Octets, octets-drop, number-again, again}
 
@@ -38,8 +39,8 @@ all-there l q k f z =
     (not (sizeOk (l .sender) k q))
     (not (isNone (bad (l .sender) (sharedSet l) k q)))
     (streamsAlone (k .tail) (q .rest)) n in
-    and-left (complete (k .fields) (q .fields)) (tailOk (k .tail) (l .sender) (k .fields) (q .fields) (length (q .rest)))
-    (not-false (sizeOk (l .sender) k q) (h .2))
+    and-parts (complete (k .fields) (q .fields)) (tailOk (k .tail) (l .sender) (k .fields) (q .fields) (length (q .rest)))
+    (not-false (sizeOk (l .sender) k q) (h .2)) .0
 
 -- what a number of 0 says of bytes that were read
 record Whole (l : Link) (b : List ℕ) : Type 0 where

@@ -19,11 +19,12 @@ use Rattle.header.specs.Link.{sharedSet, idWidth}
 use Rattle.header.specs.Header.{kindOf, lengthOf, idOf, headerSize, headerBytes, headerNumber}
 use Rattle.header.specs.Laws.{header-length, kind-back, length-back, id-back, short, id-widths}
 use Rattle.number.specs.Little.{le}
+use Rattle.number.specs.Logic.{and-parts, or-parts}
 use Rattle.kinds.specs.Table.{Field, Kind, Id, id-any, id-zero, kinds}
 use Rattle.kinds.specs.Content.{Content, shared, size, split, bytes, named, find}
 use Rattle.kinds.specs.Number.{sends, surplus, wideId, complete, tailOk, sizeOk, badFields, badTail, badId, bad, isNone, orElse, streamsAlone, inOrder, kindNumber, wireNumber}
 use Rattle.kinds.specs.Codec.{layout, contentAt, decode, orNext, readNumber, bodyOf, encode, bodyLength, packetNumber, Accepted}
-use Rattle.kinds.specs.Laws.{and-left, and-right, or-left, or-right, isNone-left, isNone-right, Fit, fit, round, length-of, rest-back}
+use Rattle.kinds.specs.Laws.{isNone-left, isNone-right, Fit, fit, round, length-of, rest-back}
 
 -- ---- what a number of 0 says
 
@@ -53,11 +54,11 @@ kinds-fit = refl
 
 found-fits : (n : ℕ) (ks : List Kind) (k : Kind) → fitKinds ks ≡ true → find n ks ≡ some k → n < 256 ^ 4
 found-fits n [] k t e = let z : _≡_ {A = ℕ} 0 1 = cc in absurd (omega arith)
-found-fits n (r ∷ rs) k t e = go (eqb n (r .number)) refl (found-fits n rs k (and-right (ltb (r .number) (256 ^ 4)) (fitKinds rs) t))
+found-fits n (r ∷ rs) k t e = go (eqb n (r .number)) refl (found-fits n rs k (and-parts (ltb (r .number) (256 ^ 4)) (fitKinds rs) t .1))
   where
     go : (b : Bool) → eqb n (r .number) ≡ b → (find n rs ≡ some k → n < 256 ^ 4) → n < 256 ^ 4
     go true s ih =
-        let l : r .number < 256 ^ 4 = ltb-true (r .number) (256 ^ 4) (and-left (ltb (r .number) (256 ^ 4)) (fitKinds rs) t) in
+        let l : r .number < 256 ^ 4 = ltb-true (r .number) (256 ^ 4) (and-parts (ltb (r .number) (256 ^ 4)) (fitKinds rs) t .0) in
         let z : n ≡ r .number = eqb-true n (r .number) s in
         omega arith
     go false s ih = ih (simp s at e)
@@ -129,12 +130,12 @@ accepted l p a = go (find (p .kind) kinds) refl
         record {
           kind = found-fits (p .kind) kinds k kinds-fit f;
           id = id-fits l p k f
-              (or-right (not (shared caps (k .needs)) || surplus caps fs (p .fields)) (wideId l p) (h .1))
+              (or-parts (not (shared caps (k .needs)) || surplus caps fs (p .fields)) (wideId l p) (h .1) .1)
               (isNone-right t i (isNone-right x (orElse t i) all));
           fields = rw f
               (fit (l .sender) caps (named "endpoint" fs (p .fields)) fs (p .fields) 0 (rw f at (a .fields))
-              (and-left (complete fs (p .fields)) (tailOk (k .tail) (l .sender) fs (p .fields) (length (p .rest))) (not-false (sizeOk (l .sender) k p) (h .2)))
-              (or-right (not (shared caps (k .needs))) (surplus caps fs (p .fields)) (or-left (not (shared caps (k .needs)) || surplus caps fs (p .fields)) (wideId l p) (h .1)))
+              (and-parts (complete fs (p .fields)) (tailOk (k .tail) (l .sender) fs (p .fields) (length (p .rest))) (not-false (sizeOk (l .sender) k p) (h .2)) .0)
+              (or-parts (not (shared caps (k .needs))) (surplus caps fs (p .fields)) (or-parts (not (shared caps (k .needs)) || surplus caps fs (p .fields)) (wideId l p) (h .1) .0) .1)
               (isNone-left x (orElse t i) all));
           header = zs .0;
           wire = zs .1;

@@ -11,9 +11,9 @@ use native.Mathlib.Omega.{arith}
 use lib.ListN.{length, getD}
 use lib.Dec.{eqb, leb, lit≤}
 use borrow.Author.Tests.{eqb-true, le-leb, lt-leb, leb-true}
+use Rattle.number.specs.Logic.{and-parts}
 use Rattle.kinds.specs.Table.{Bits, Field, Kind, kinds, kindAt, none-such}
 use Rattle.kinds.specs.Content.{size, find}
-use Rattle.kinds.specs.Laws.{and-left, and-right}
 
 -- n numbers from i on
 abbrev from : ℕ → ℕ → List ℕ
@@ -89,10 +89,10 @@ allKnown (r ∷ rs) = known (r .number) && allKnown rs
 
 absent : (k : ℕ) (rs : List Kind) → known k ≡ false → allKnown rs ≡ true → find k rs ≡ none
 absent k [] h t = refl
-absent k (r ∷ rs) h t = go (eqb k (r .number)) refl (absent k rs h (and-right (known (r .number)) (allKnown rs) t))
+absent k (r ∷ rs) h t = go (eqb k (r .number)) refl (absent k rs h (and-parts (known (r .number)) (allKnown rs) t .1))
   where
     go : (b : Bool) → eqb k (r .number) ≡ b → find k rs ≡ none → find k (r ∷ rs) ≡ none
-    go true e ih = absurd (false≢true (sym h ∙ ap known (eqb-true k (r .number) e) ∙ and-left (known (r .number)) (allKnown rs) t))
+    go true e ih = absurd (false≢true (sym h ∙ ap known (eqb-true k (r .number) e) ∙ and-parts (known (r .number)) (allKnown rs) t .0))
     go false e ih = rw e ih
 
 all-known : allKnown kinds ≡ true

@@ -1,3 +1,4 @@
 pub mod Little
 pub mod Bits
 pub mod Laws
+pub mod Logic

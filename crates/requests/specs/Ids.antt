@@ -2,7 +2,7 @@
 -- By induction over the places: a free place gives no number; a live one gives its id, which is among those behind it exactly where a live place
 -- behind it has it (`live-has`).
 -- Assumes nothing.
-use Prim.Native.Nat.{ℕ, _+_}
+use Prim.Native.Nat.{ℕ}
 use mathlib.Core.Path.{_≡_, refl}
 use mathlib.Core.Bool.{Bool, true, cond, not, _&&_}
 use mathlib.Core.List.{List, [], _∷_, _++_}

@@ -15,12 +15,12 @@ use lib.Seq.{getD-set-same, getD-set-other}
 use lib.Dec.{eqb}
 use borrow.Author.Tests.{eqb-true, eq-eqb, not-true}
 use borrow.Table.Steps.{cases}
+use Rattle.number.specs.Logic.{and-parts}
 use Rattle.device.specs.declared.Rows.{Rows}
 use Rattle.device.specs.declared.Scope.{Scope}
 use Rattle.device.specs.declared.Scope.the-variants.{Nowhere}
 use Rattle.device.specs.Device.{touched}
 use Rattle.scan.specs.Scan.{exists, eachAt}
-use Rattle.scan.specs.Logic.{and-parts}
 use Rattle.scan.specs.Laws.{first-found, first-lowest, first-absent, first-never, exists-at, exists-not, getD-set, each-at, each-length, each-same, each-anywhere}
 use Rattle.requests.specs.declared.Request.{Request}
 use Rattle.requests.specs.declared.Place.{Place}

@@ -13,13 +13,14 @@ use lib.Dec.{eqb, leb, ltb, lit<, lit≤, leb·zero, leb·suc-zero, leb·suc-suc
 use borrow.Author.Tests.{ltb-false, leb-true, le-leb}
 use borrow.Table.Steps.{cases}
 use Rattle.number.specs.Bits.{hasBit}
+use Rattle.number.specs.Logic.{or-parts}
 use Rattle.endpoint.specs.declared.Endpoint.{Endpoint}
 use Rattle.header.specs.declared.Side.{Side}
 use Rattle.kinds.specs.Table.{kinds, kindAt, endpoint-type}
 use Rattle.kinds.specs.Content.{numbers, size}
 use Rattle.kinds.specs.Number.{orElse, addressOk, zeroAt, holds, firstBad, bad, complete, surplus}
 use Rattle.kinds.specs.Codec.{layout}
-use Rattle.kinds.specs.Laws.{complete-split, numbers-after, or-right}
+use Rattle.kinds.specs.Laws.{complete-split, numbers-after}
 use Rattle.packet.specs.declared.Part.{Part}
 use Rattle.packet.specs.declared.Optional16.{Optional16}
 use Rattle.packet.specs.declared.Optional16.the-variants.{Absent, Present}
@@ -263,7 +264,7 @@ pub bulk : (from : Side) (caps id status n stream : ℕ) (e : Endpoint) (part : 
 unfolding kinds layout contentOf bad
 bulk from caps id status n stream e part body =
     let b : Bool = hasBit caps 6 || ltb 65535 n in
-    let small : b ≡ false → n < 65536 = λ t. let l : n ≤ 65535 = ltb-false 65535 n (or-right (hasBit caps 6) (ltb 65535 n) t) in omega arith in
+    let small : b ≡ false → n < 65536 = λ t. let l : n ≤ 65535 = ltb-false 65535 n (or-parts (hasBit caps 6) (ltb 65535 n) t .1) in omega arith in
     record {
       exact = refl;
       small = lit< tt;

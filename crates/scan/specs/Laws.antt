@@ -15,8 +15,8 @@ use lib.Seq.{getD-set-same, getD-set-other}
 use lib.Dec.{eqb}
 use borrow.Author.Tests.{eqb-true, eqb-false}
 use borrow.Table.Steps.{cases}
+use Rattle.number.specs.Logic.{or-parts}
 use Rattle.scan.specs.Scan.{firstAt, exists, anyAt, eachAt}
-use Rattle.scan.specs.Logic.{or-parts}
 use Rattle.scan.specs.Loop.{upTo, upto-at, upto-more}
 
 -- ---- the first that passes

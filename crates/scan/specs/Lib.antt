@@ -1,4 +1,3 @@
 pub mod Scan
-pub mod Logic
 pub mod Loop
 pub mod Laws

@@ -3,7 +3,7 @@
 -- (`more-less`, `more-head`), so that it takes some; any other uses up the rest. So as many calls as there are bytes are enough (`more-calls`). A
 -- line has at most 117 bytes, and the rest is induction over the calls.
 -- Assumes nothing.
-use Prim.Native.Nat.{ℕ, zero, suc, _+_, _-_, _*_, _≤_, _<_}
+use Prim.Native.Nat.{ℕ, zero, suc, _+_, _*_, _≤_, _<_}
 use native.Mathlib.Omega.{arith}
 use mathlib.Core.Path.{_≡_, refl, sym, _∙_}
 use mathlib.Core.Bool.{Bool, true, false, cond, _||_, false≢true, true≢false}

@@ -4,7 +4,7 @@
 -- (`newline-there`). The last bytes of the input: they are the last line (`last-line`). More than 4,113 bytes without a newline: the line is bad,
 -- however it goes on (`newline-missing`, `long-bad`), and behind a bad line nothing is looked at.
 -- Assumes nothing.
-use Prim.Native.Nat.{ℕ, suc, _+_, _%_, _≤_, _<_}
+use Prim.Native.Nat.{ℕ, suc, _%_, _≤_, _<_}
 use native.Mathlib.Omega.{arith}
 use mathlib.Core.Path.{_≡_, refl, sym, ap, _∙_}
 use mathlib.Core.Bool.{Bool, true, false, cond, _&&_, _||_, and-false, false≢true}
@@ -14,7 +14,7 @@ use lib.ListN.{length, take, drop, length-append, length-drop, drop-of-length-le
 use lib.Seq.{take-all}
 use lib.Dec.{eqb, ltb}
 use borrow.Author.Tests.{ltb-true, ltb-false, lt-leb}
-use Rattle.scan.specs.Logic.{or-parts}
+use Rattle.number.specs.Logic.{or-parts}
 use Rattle.header.specs.declared.Side.the-variants.{Guest, Host}
 use Rattle.capture.specs.Lines.{startOf, startsWith, allHex, isSpelling, Offered, lineOf}
 use Rattle.capture.specs.Laws.{offeredBytes, line-short}

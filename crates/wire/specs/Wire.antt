@@ -16,6 +16,7 @@ use borrow.Author.Tests.{eqb-true, ne-eqb}
 use borrow.Table.Steps.{cases}
 use Rattle.number.specs.Bits.{hasBit}
 use Rattle.number.specs.Laws.{le-front}
+use Rattle.number.specs.Logic.{and-parts}
 use Rattle.header.specs.declared.Side.{Side}
 use Rattle.header.specs.declared.Link.{Link}
 use Rattle.header.specs.Link.{sharedSet, passed, own}
@@ -25,7 +26,7 @@ use Rattle.kinds.specs.Table.{Bits, always, bit, bits, status, endpoint, zero-w
 use Rattle.kinds.specs.Content.{Value, Content, shared, sizeOf, size, named, find, fieldsOf}
 use Rattle.kinds.specs.Number.{sends, surplus, wideId, sizeOk, badField, badFields, badTail, badId, orElse, bad, isNone, streamsAlone, inOrder, kindNumber, byKind, wireNumber}
 use Rattle.kinds.specs.Codec.{layout, decode, encode, orNext, readNumber, bodyLength, packetNumber, Accepted}
-use Rattle.kinds.specs.Laws.{and-left, and-right, isNone-left, isNone-right, first-good, FitField, Fit}
+use Rattle.kinds.specs.Laws.{isNone-left, isNone-right, first-good, FitField, Fit}
 use Rattle.kinds.specs.RoundTrip.{accepted, RoundTrip, round-trip}
 use Rattle.roundtrip.specs.Wire.{Wire, Good, WireLaws}
 use Rattle.roundtrip.specs.Prefix.{allBytes, AllAccepted, same, not-begun, apart}
@@ -210,8 +211,8 @@ stray-bad : (from : Side) (caps e : ℕ) (p : Content) → stray caps (layout 10
 stray-bad from caps e p s b =
     let stream : ℕ = named "stream" (layout 101) (p .fields) in
     cases (hasBit caps 0)
-    (λ h. false≢true (rw h at (and-right (eqb (p .kind) 101) (not (hasBit caps 0)) (and-left _ (not (eqb stream 0)) s))))
-    (λ h. false≢true (rw (stream-zero from caps e (p .fields) 0 h b) at (and-right (eqb (p .kind) 101 && not (hasBit caps 0)) (not (eqb stream 0)) s)))
+    (λ h. false≢true (rw h at (and-parts (eqb (p .kind) 101) (not (hasBit caps 0)) (and-parts _ (not (eqb stream 0)) s .0) .1)))
+    (λ h. false≢true (rw (stream-zero from caps e (p .fields) 0 h b) at (and-parts (eqb (p .kind) 101 && not (hasBit caps 0)) (not (eqb stream 0)) s .1)))
 
 -- what misses a field or has a stream so breaks a field rule
 unsuited-bad : (l : Link) (p : Content) (k : Kind) → find (p .kind) kinds ≡ some k → unsuited l (some k) p ≡ true → not (isNone (bad (l .sender) (sharedSet l) k p)) ≡ true
@@ -226,7 +227,7 @@ unsuited-bad l p k f m =
         → isNone (badFields (l .sender) (sharedSet l) (named "endpoint" (k .fields) (p .fields)) (k .fields) (p .fields) 0) ≡ true → ⊥
     go true h m b = missing-bad (l .sender) (sharedSet l) _ (k .fields) (p .fields) 0 h b
     go false h m b =
-        let n : p .kind ≡ 101 = eqb-true (p .kind) 101 (and-left (eqb (p .kind) 101) _ (and-left _ (not (eqb (named "stream" (k .fields) (p .fields)) 0)) m)) in
+        let n : p .kind ≡ 101 = eqb-true (p .kind) 101 (and-parts (eqb (p .kind) 101) _ (and-parts _ (not (eqb (named "stream" (k .fields) (p .fields)) 0)) m .0) .0) in
         let q : k .fields ≡ layout 101 = sym (ap fieldsOf f) ∙ ap layout n in
         stray-bad (l .sender) (sharedSet l) (named "endpoint" (layout 101) (p .fields)) p (rw q at m) (rw q at b)
 

@@ -9,7 +9,7 @@ use borrow.Author.Tests.{ltb-true}
 use mathlib.Core.Bool.{not}
 use lib.ListN.{length}
 use lib.Dec.{ltb}
-use Rattle.capture.specs.Laws.{both}
+use Rattle.number.specs.Logic.{and-parts}
 use Rattle.report.specs.Program.{Fits, memory, beginning, Turns}
 use Rattle.report.specs.Output.{steps-fit}
 use Rattle.report.proofs.Laws.{run-begins, begun-fits, run-goes, not-over, run-ends}
@@ -40,7 +40,7 @@ step-requires c κs =
 
 -- a turn is left where the test held
 left : (c : tie.Then1 Inv-loop μ-loop) → 0 < c .before .before .loop .turns
-left c = ltb-true 0 (c .before .before .loop .turns) (both _ _ (c .if1 .taken) .0)
+left c = ltb-true 0 (c .before .before .loop .turns) (and-parts _ _ (c .if1 .taken) .0)
 
 sub-turns : tie.Need-sub-turns Inv-loop μ-loop
 sub-turns c = left (c .before .before .before .before .before .before .before .before .before .before .before .before .before)
@@ -53,7 +53,7 @@ loop-again c =
     let d = c .before .before .before .before .before .before .before .before in
     let t = d .before .before .before .before .before in
     let l = t .before .before in
-    (run-goes {n = memory (l .loop .p) (l .loop .guest) (l .loop .host) (l .loop .input) (l .loop .out)} (l .loop .turns) (left t) (l .loop .inv .2) (l .loop .inv .0) (not-over (l .loop .p .over) (both (ltb 0 (l .loop .turns)) (not (l .loop .p .over)) (t .if1 .taken) .1)) (d .step .ensures), steps-fit (d .step .ensures) (l .loop .inv .1), omega (arith, l .loop .inv .2), d .step .kept .1 .0 ∙ l .loop .inv .3, d .step .kept .1 .1 .0 ∙ l .loop .inv .4, d .step .kept .1 .1 .1 .0 ∙ l .loop .inv .5, d .step .kept .1 .1 .1 .1 .0 ∙ l .loop .inv .6)
+    (run-goes {n = memory (l .loop .p) (l .loop .guest) (l .loop .host) (l .loop .input) (l .loop .out)} (l .loop .turns) (left t) (l .loop .inv .2) (l .loop .inv .0) (not-over (l .loop .p .over) (and-parts (ltb 0 (l .loop .turns)) (not (l .loop .p .over)) (t .if1 .taken) .1)) (d .step .ensures), steps-fit (d .step .ensures) (l .loop .inv .1), omega (arith, l .loop .inv .2), d .step .kept .1 .0 ∙ l .loop .inv .3, d .step .kept .1 .1 .0 ∙ l .loop .inv .4, d .step .kept .1 .1 .1 .0 ∙ l .loop .inv .5, d .step .kept .1 .1 .1 .1 .0 ∙ l .loop .inv .6)
 
 same-length : tie.Need-same-length Inv-loop μ-loop
 same-length c = c .before .before .loop .inv .3

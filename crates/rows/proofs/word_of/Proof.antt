@@ -1,6 +1,6 @@
 -- `rows::word_of` meets its contract: the word is there where its bytes are, and read where it stands.
 -- Assumes nothing.
-use Prim.Native.Nat.{_+_, _*_, _≤_, _<_, _-_}
+use Prim.Native.Nat.{_+_, _*_, _≤_, _<_}
 use mathlib.Core.Path.{sym}
 use native.Mathlib.Omega.{arith}
 use lib.ListN.{length, drop, length-drop}
