@@ -1,6 +1,6 @@
 -- The table of kinds against the lists of document 01, and what each rule allows against its sentences. All by computation.
 -- Assumes nothing.
-use Prim.Native.Nat.{ℕ, zero, suc, _+_, _-_}
+use Prim.Native.Nat.{ℕ, suc, _+_, _-_}
 use Prim.Native.String.{String}
 use mathlib.Core.Path.{_≡_, refl}
 use mathlib.Core.Bool.{Bool, true, false, cond, not, _&&_, _||_}
@@ -13,6 +13,7 @@ use Rattle.header.specs.declared.Side.the-variants.{Guest, Host}
 use Rattle.kinds.specs.Table.{Bits, always, bit, bits, Rule, any, holding-zero, speed, at-most-32, endpoint-type, status, endpoint, endpoint-in, endpoint-onward, endpoint-out-of-guest, as-endpoint, nonzero, zero-without, Field, Tail, nothing, words, string, payload, payload-onward, Id, id-any, id-zero, Kind, u8, u16, kinds}
 use Rattle.kinds.specs.Content.{one}
 use Rattle.kinds.specs.Number.{sends, holds, tailOk, badTail, isNone, streamsAlone}
+use Rattle.kinds.specs.Slots.{from}
 
 -- ---- kinds by what their line says
 
@@ -21,14 +22,9 @@ abbrev those : (Kind → Bool) → List Kind → List ℕ
 those p [] = []
 those p (k ∷ ks) = cond (p k) (k .number ∷ those p ks) (those p ks)
 
--- n numbers from i on
-abbrev run : ℕ → ℕ → List ℕ
-run zero i = []
-run (suc n) i = i ∷ run n (suc i)
-
 infix 65 _to_
 abbrev _to_ : ℕ → ℕ → List ℕ
-i to j = run (suc j - i) i
+i to j = from (suc j - i) i
 
 -- a number for each rule, to compare them by
 abbrev tag : Rule → ℕ

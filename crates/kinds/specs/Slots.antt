@@ -16,7 +16,7 @@ use Rattle.kinds.specs.Table.{Bits, Field, Kind, kinds, kindAt, none-suc
 use Rattle.kinds.specs.Content.{size, find}
 
 -- n numbers from i on
-abbrev from : ℕ → ℕ → List ℕ
+abbrev pub from : ℕ → ℕ → List ℕ
 from zero i = []
 from (suc n) i = i ∷ from n (suc i)
 
