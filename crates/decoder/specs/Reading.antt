@@ -64,6 +64,10 @@ abbrev pub kindOr : Option Kind → Kind
 kindOr none = none-such
 kindOr (some k) = k
 
+-- the part that the packet names, by the bytes' kind and size
+abbrev pub partOf : Link → List ℕ → Part
+partOf l bytes = partAt (sharedSet l) (kindOr (find (kindOf bytes) kinds)) (length (drop (headerSize l (kindOf bytes)) bytes))
+
 -- ---- what reading bytes has to tell
 
 unfoldable pub readOf : Link → List ℕ → Told
@@ -72,10 +76,6 @@ readOf l bytes =
       number = readNumber l bytes;
       handed =
           cond (eqb (readNumber l bytes) 0)
-          (some (record {
-            header = headerOf l bytes;
-            content = decode l bytes;
-            part = partAt (sharedSet l) (kindOr (find (kindOf bytes) kinds)) (length (drop (headerSize l (kindOf bytes)) bytes));
-          }))
+          (some (record { header = headerOf l bytes; content = decode l bytes; part = partOf l bytes }))
           none;
     }

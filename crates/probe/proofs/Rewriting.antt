@@ -16,10 +16,10 @@ use Rattle.packet.specs.Packet.{contentOf}
 use Rattle.decoder.specs.declared.Reading.{Reading}
 use Rattle.decoder.specs.declared.Reading.the-variants.{Refused, Passed}
 use Rattle.decoder.specs.Reading.{told, readOf}
+use Rattle.decoder.specs.Laws.{refusing, passing}
 use Rattle.encoder.specs.declared.Written.{Written}
 use Rattle.encoder.specs.Written.{Writes}
 use Rattle.probe.specs.Probe.{Rewrites, WritesBulk, bulkOf}
-use Rattle.probe.proofs.Readings.{passing, refusing}
 
 module _ {l m : Link} (same-link : l ≡ m) {bytes : List ℕ} {r : Reading} (t : told l bytes r ≡ readOf l bytes) {out : List ℕ} where
   pub rewrite-refused : {n : ℕ} → r ≡ Refused n → Rewrites m bytes out 0 out

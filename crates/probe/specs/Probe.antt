@@ -4,7 +4,7 @@ use Prim.Native.Nat.{ℕ, _/_}
 use mathlib.Core.Path.{_≡_}
 use mathlib.Core.Bool.{cond, not, _||_}
 use mathlib.Core.List.{List, [], _∷_, map}
-use lib.ListN.{length, getD, take, drop}
+use lib.ListN.{length, getD, take}
 use lib.Dec.{eqb, ltb}
 use Rattle.number.specs.Bits.{hasBit}
 use Rattle.endpoint.specs.Endpoint.{rowOf}
@@ -15,11 +15,8 @@ use Rattle.header.specs.declared.Hello.{Hello}
 use Rattle.header.specs.declared.Hello.the-variants.{Awaited, Passed}
 use Rattle.header.specs.declared.Link.{Link}
 use Rattle.header.specs.Link.{sharedSet}
-use Rattle.header.specs.Header.{kindOf, headerSize}
-use Rattle.kinds.specs.Table.{kinds}
-use Rattle.kinds.specs.Content.{Value, Content, firstNumber, find}
+use Rattle.kinds.specs.Content.{Value, Content, firstNumber}
 use Rattle.kinds.specs.Codec.{layout, decode, readNumber, writeNumber, writtenSize, written}
-use Rattle.packet.specs.declared.Part.{Part}
 use Rattle.packet.specs.declared.Optional16.{Optional16}
 use Rattle.packet.specs.declared.Optional16.the-variants.{Absent, Present}
 use Rattle.packet.specs.declared.Packet.the-variants.{Bulk}
@@ -27,7 +24,7 @@ use Rattle.packet.specs.Packet.{contentOf}
 use Rattle.rows.specs.declared.Optional32.{Optional32}
 use Rattle.rows.specs.declared.Optional32.the-variants.{Absent as Absent32, Present as Present32}
 use Rattle.rows.specs.Rows.{interfaceRow, endpointRow}
-use Rattle.decoder.specs.Reading.{frontFields, partAt, kindOr}
+use Rattle.decoder.specs.Reading.{frontFields, partOf}
 
 abbrev pub helloOf : ℕ → Hello
 helloOf word = cond (ltb word 4294967296) (Passed word) Awaited
@@ -56,9 +53,7 @@ fieldIn l bytes i = cond (eqb (readNumber l bytes) 0) (getD (map firstNumber (fr
 
 -- an end of the part of a packet that passes
 abbrev pub partIn : Link → List ℕ → ℕ → ℕ
-partIn l bytes end =
-    let p : Part = partAt (sharedSet l) (kindOr (find (kindOf bytes) kinds)) (length (drop (headerSize l (kindOf bytes)) bytes)) in
-    cond (eqb (readNumber l bytes) 0) (cond (eqb end 0) (p .start) (p .end)) 0
+partIn l bytes end = cond (eqb (readNumber l bytes) 0) (cond (eqb end 0) (partOf l bytes .start) (partOf l bytes .end)) 0
 
 abbrev pub rowNumber : RowOf → ℕ
 rowNumber (At r) = r .0

@@ -4,12 +4,11 @@
 -- definition's.
 -- Assumes nothing.
 use Prim.Native.Nat.{ℕ}
-use native.Mathlib.Omega.{arith}
-use mathlib.Core.Path.{_≡_, refl, sym, ap}
+use mathlib.Core.Path.{_≡_, refl, ap}
 use mathlib.Core.Bool.{Bool, true, false, cond}
 use mathlib.Core.List.{List}
-use mathlib.Core.Option.{Option, none, some}
-use lib.ListN.{length, drop}
+use mathlib.Core.Option.{Option, none}
+use lib.ListN.{length}
 use lib.Seq.{slice, take-length}
 use lib.Dec.{eqb}
 use Rattle.header.specs.declared.Header.{Header}
@@ -17,12 +16,13 @@ use Rattle.header.specs.declared.Link.{Link}
 use Rattle.header.specs.declared.Side.{Side}
 use Rattle.header.specs.Link.{sharedSet}
 use Rattle.header.specs.Header.{kindOf}
-use Rattle.kinds.specs.Codec.{decode, readNumber}
+use Rattle.kinds.specs.Codec.{decode}
 use Rattle.packet.specs.declared.Packet.{Packet}
 use Rattle.packet.specs.Packet.{contentOf}
 use Rattle.decoder.specs.declared.Reading.{Reading}
 use Rattle.decoder.specs.declared.Reading.the-variants.{Refused, Passed as Read}
 use Rattle.decoder.specs.Reading.{Handed, Told as ReadTold, told, readOf}
+use Rattle.decoder.specs.Laws.{refusing, passing}
 use Rattle.events.specs.declared.Event.{Event}
 use Rattle.events.specs.Event.{Means, eventOf}
 use Rattle.session.specs.declared.Session.{Session}
@@ -33,40 +33,19 @@ use Rattle.verdict.specs.declared.Verdict.{Verdict}
 use Rattle.verdict.specs.declared.Handed.the-variants.{Nothing, Passed}
 use Rattle.verdict.specs.Verdict.{refusedAs, verdictOf, handedAs, tells, judgedAs}
 
--- a reading that hands nothing has a number that is not 0
-handed-none : (t : Bool) (b : Handed) → none ≡ cond t (some b) none → t ≡ false
-handed-none true b e =
-    let z : _≡_ {A = ℕ} 0 1 = cc in
-    absurd (omega arith)
-handed-none false b e = refl
-
-same : {a b : Handed} → _≡_ {A = Option Handed} (some a) (some b) → a ≡ b
-same e = cc
-
 -- a packet is handed out where its number is 0
 handed-when : (b : Bool) (l : Link) (bytes : List ℕ) (h : Header) (p : Packet) (o : Option Handed) → told l bytes (Read h p) .handed ≡ o
     → handedAs l bytes (cond b (Passed h p) Nothing) ≡ cond b o none
 handed-when true l bytes h p o e = e
 handed-when false l bytes h p o e = refl
 
--- what a reading that passed tells
-passed-number : (l : Link) (bytes : List ℕ) (h : Header) (p : Packet) → told l bytes (Read h p) ≡ readOf l bytes → readNumber l bytes ≡ 0
-unfolding readOf
-passed-number l bytes h p g = sym (ap (λ (x : ReadTold). x .number) g)
-
-passed-content : (l : Link) (bytes : List ℕ) (h : Header) (p : Packet) → told l bytes (Read h p) ≡ readOf l bytes → readNumber l bytes ≡ 0
-    → contentOf (sharedSet l) (h .id) p (drop (h .size) bytes) ≡ decode l bytes
-unfolding readOf
-passed-content l bytes h p g z = ap (λ (x : Handed). x .content) (same (rw z at (ap (λ (x : ReadTold). x .handed) g)))
-
 module _ (s : Session) (from : Side) {l : Link} (same-link : l ≡ linkOf from s) (bytes : List ℕ) {r : Reading} (t : told l bytes r ≡ readOf l bytes) where
   pub verdict-refused : {n k : ℕ} {next : Session} → r ≡ Refused n → k ≡ kindOf bytes → next ≡ refusedAs s k
       → tells (linkOf from s) bytes (record { session = next; number = n; handed = Nothing }) ≡ verdictOf s from bytes
-  unfolding verdictOf readOf
+  unfolding verdictOf
   verdict-refused e ek en =
-      let g = rw e at t in
-      let z : eqb (readNumber l bytes) 0 ≡ false = handed-none _ _ (ap (λ (x : ReadTold). x .handed) g) in
-      rw (← same-link, z, ap (λ (x : ReadTold). x .number) g, en, ek)
+      let g = refusing t e in
+      rw (← same-link, g .nonzero, g .number, en, ek)
 
   -- the code's packet says what `decode` says, so that its event and the judge's answer are those of the definition
   pub verdict-passed : {h : Header} {p : Packet} {body : List ℕ} {e : Event} {j : Judged} {v : Verdict} → r ≡ Read h p
@@ -77,11 +56,9 @@ module _ (s : Session) (from : Side) {l : Link} (same-link : l ≡ linkOf from s
       → tells (linkOf from s) bytes v ≡ verdictOf s from bytes
   unfolding verdictOf
   verdict-passed {h} {p} {body} {e} {j} q b m ej ev =
-      let g = rw q at t in
-      let z : readNumber l bytes ≡ 0 = passed-number l bytes h p g in
-      let d = passed-content l bytes h p g z in
-      let c : contentOf (sharedSet l) (h .id) p body ≡ decode l bytes = rw (b, take-length bytes) d in
+      let g = passing t q in
+      let c : contentOf (sharedSet l) (h .id) p body ≡ decode l bytes = rw (b, take-length bytes) (g .content) in
       let k : j ≡ judged s (eventOf from (decode l bytes)) = rw (← c, ← m (sharedSet l)) ej in
-      rw (← same-link, z, ev, k)
+      rw (← same-link, g .number, ev, k)
       (ap (λ (o : Option Handed). record { session = judged s (eventOf from (decode l bytes)) .session; number = judged s (eventOf from (decode l bytes)) .number; handed = o })
-      (handed-when (eqb (judged s (eventOf from (decode l bytes)) .number) 0) l bytes h p (readOf l bytes .handed) (ap (λ (x : ReadTold). x .handed) g)))
+      (handed-when (eqb (judged s (eventOf from (decode l bytes)) .number) 0) l bytes h p (readOf l bytes .handed) (ap (λ (x : ReadTold). x .handed) (rw q at t))))
