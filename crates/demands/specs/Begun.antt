@@ -21,7 +21,7 @@ use Rattle.header.specs.declared.Side.the-variants.{Guest, Host}
 use Rattle.header.specs.declared.Hello.{Hello}
 use Rattle.header.specs.declared.Hello.the-variants.{Awaited, Passed}
 use Rattle.header.specs.declared.Link.{Link}
-use Rattle.header.specs.Link.{offered, passed, own, sharedSet, idWidth}
+use Rattle.header.specs.Link.{offered, passed, own, sharedSet, idWidth, opposite}
 use Rattle.header.specs.Header.{kindOf, lengthOf, headerSize, headerNumber}
 use Rattle.kinds.specs.Content.{Content}
 use Rattle.kinds.specs.Number.{wireNumber}
@@ -43,7 +43,7 @@ use Rattle.frame.specs.Frame.{cutAt, completed}
 use Rattle.verdict.specs.Verdict.{stoppedNow, refusedAs, verdictOf}
 use Rattle.gate.specs.Offer.{heldOf, heldAs, heldBytes, isWaiting, barred, byCut, offerOf}
 use Rattle.gate.specs.Laws.{FitCount, Fit, fit-is, is-fit, completed-length, more-few, Ready, ready}
-use Rattle.demands.specs.Kept.{opposite, kept-front, held-as, same-held, whole-number}
+use Rattle.demands.specs.Kept.{kept-front, held-as, same-held, whole-number}
 use Rattle.demands.specs.Cuts.{of-side, Both, Call, answerTo, next, final, heldBy, ends, verdict-ends}
 use Rattle.demands.specs.Calls.{Unfinished, header-ends}
 use Rattle.demands.specs.Demand3.{State, Starts}

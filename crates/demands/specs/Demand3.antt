@@ -15,7 +15,7 @@ use borrow.Author.Tests.{ne-eqb, le-ltb}
 use Rattle.header.specs.declared.Side.{Side}
 use Rattle.header.specs.declared.Side.the-variants.{Guest, Host}
 use Rattle.header.specs.declared.Link.{Link}
-use Rattle.header.specs.Link.{passed, own}
+use Rattle.header.specs.Link.{passed, own, opposite}
 use Rattle.kinds.specs.Content.{Content}
 use Rattle.kinds.specs.Codec.{decode, encode, readNumber, packetNumber, writeNumber, written, writtenSize, Accepted}
 use Rattle.kinds.specs.RoundTrip.{both-zero}
@@ -37,7 +37,7 @@ use Rattle.encoder.specs.declared.Written.{Written}
 use Rattle.gate.specs.Write.{shut, writeBy, output, outputSize, WritesBy}
 use Rattle.gate.specs.Laws.{completed-length, more-few, Ready, not-barred, fit-is, is-fit, held-few}
 use Rattle.demands.specs.Numbers.{Each, session-numbers}
-use Rattle.demands.specs.Kept.{opposite, kept-front, held-as, same-held, Sound, Keeps, offer-keeps}
+use Rattle.demands.specs.Kept.{kept-front, held-as, same-held, Sound, Keeps, offer-keeps}
 
 -- ---- the reader of a direction
 

@@ -18,7 +18,7 @@ use Rattle.header.specs.declared.Side.{Side}
 use Rattle.header.specs.declared.Side.the-variants.{Guest, Host}
 use Rattle.header.specs.declared.Hello.{Hello}
 use Rattle.header.specs.declared.Link.{Link}
-use Rattle.header.specs.Link.{passed}
+use Rattle.header.specs.Link.{passed, opposite}
 use Rattle.header.specs.Header.{kindOf, lengthOf}
 use Rattle.kinds.specs.Content.{Content}
 use Rattle.kinds.specs.Number.{wireNumber}
@@ -37,10 +37,6 @@ use Rattle.verdict.specs.Verdict.{stoppedNow, refusedAs, verdictOf}
 use Rattle.gate.specs.Offer.{heldOf, heldAs, heldBytes, barred, byCut, offerOf, Whole}
 use Rattle.gate.specs.Laws.{completed-front, FitCount, Fit, Ready, ready, more-few, held-few}
 use Rattle.demands.specs.Numbers.{Each, wire-numbers, session-numbers}
-
-abbrev pub opposite : Side → Side
-opposite Guest = Host
-opposite Host = Guest
 
 -- ---- a header is decided by its own bytes
 

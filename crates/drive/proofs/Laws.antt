@@ -17,7 +17,7 @@ use Rattle.number.specs.Little.{le, bytesOf}
 use Rattle.number.specs.Laws.{sets-append}
 use Rattle.header.specs.declared.Header.{Header}
 use Rattle.header.specs.declared.Link.{Link}
-use Rattle.header.specs.Link.{sharedSet}
+use Rattle.header.specs.Link.{sharedSet, sideOf, opposite}
 use Rattle.header.specs.declared.Side.{Side}
 use Rattle.header.specs.declared.Side.the-variants.{Guest, Host}
 use Rattle.packet.specs.declared.Part.{Part}
@@ -33,8 +33,8 @@ use Rattle.gate.specs.declared.Offered.{Offered}
 use Rattle.frame.specs.Frame.{bytesAt}
 use Rattle.gate.specs.Offer.{outcome, offerOf}
 use Rattle.drive.specs.declared.Data.{Data}
-use Rattle.drive.specs.Drive.{senderOf, sizeAt, pieceAt, senderAt, placeNumber, startOf, endOf, idOf, recordBytes, recordOf, Run, ownOf, recorded, called, runOf, driven, Drives}
-use Rattle.drive.specs.Steps.{dataIn, answerBytes, other}
+use Rattle.drive.specs.Drive.{sizeAt, pieceAt, senderAt, placeNumber, startOf, endOf, idOf, recordBytes, recordOf, Run, ownOf, recorded, called, runOf, driven, Drives}
+use Rattle.drive.specs.Steps.{dataIn, answerBytes}
 use Rattle.drive.proofs.Named.{part-named}
 
 -- ---- a record
@@ -123,7 +123,7 @@ data-passed q n a b = rw (q, a, b, n)
 -- a reader call over the sender's own buffer, which leaves the other as it is
 pub record OffersTo (from : Side) (s : Session) (guest host piece : List ℕ) (r : Offered) (guest′ host′ : List ℕ) : Type 0 where
   pub own : outcome (linkOf from s) r piece (ownOf from guest′ host′) ≡ offerOf from s (ownOf from guest host) piece
-  pub other-stays : ownOf (other from) guest′ host′ ≡ ownOf (other from) guest host
+  pub other-stays : ownOf (opposite from) guest′ host′ ≡ ownOf (opposite from) guest host
   pub guest-length : length guest′ ≡ length guest
   pub host-length : length host′ ≡ length host
 
@@ -205,7 +205,7 @@ module _ {script guest₀ host₀ out₀ guest host out : List ℕ} {s : Session
       → n ≡ le 4 rest 1
       → 5 + n ≤ length rest
       → b ≡ le 1 rest 0
-      → from ≡ senderOf b
+      → from ≡ sideOf b
       → piece ≡ slice 5 (5 + n) rest
       → OffersTo from s guest host piece o guest′ host′
       → out′ ≡ sets out (k * 26) (answerBytes (o .answer))

@@ -7,10 +7,11 @@ use mathlib.Core.Option.{Option, none, some}
 use mathlib.Core.Path.{_≡_}
 use lib.ListN.{length, drop}
 use lib.Seq.{sets, slice}
-use lib.Dec.{eqb, leb}
+use lib.Dec.{leb}
 use Rattle.number.specs.Little.{le, bytesOf}
 use Rattle.header.specs.declared.Side.{Side}
 use Rattle.header.specs.declared.Side.the-variants.{Guest, Host}
+use Rattle.header.specs.Link.{sideOf}
 use Rattle.decoder.specs.Reading.{Handed}
 use Rattle.session.specs.declared.Session.{Session}
 use Rattle.session.specs.Session.{freshSession}
@@ -20,9 +21,6 @@ use Rattle.gate.specs.Offer.{Outcome, offerOf}
 
 -- ---- an item of the script: a byte for the sender, four for the size of the piece, and the piece
 
-abbrev pub senderOf : ℕ → Side
-senderOf b = cond (eqb b 0) Guest Host
-
 -- what an item takes of the script
 abbrev pub sizeAt : List ℕ → ℕ
 sizeAt script = 5 + le 4 script 1
@@ -31,7 +29,7 @@ abbrev pub isWhole : List ℕ → Bool
 isWhole script = leb (sizeAt script) (length script)
 
 abbrev pub senderAt : List ℕ → Side
-senderAt script = senderOf (le 1 script 0)
+senderAt script = sideOf (le 1 script 0)
 
 abbrev pub pieceAt : List ℕ → List ℕ
 pieceAt script = slice 5 (sizeAt script) script

@@ -2,19 +2,12 @@
 -- Assumes nothing: these are definitions.
 use Prim.Native.Nat.{ℕ, _+_, _%_, _^_}
 use mathlib.Core.List.{List}
-use mathlib.Core.Path.{_≡_}
-use Rattle.header.specs.declared.Side.{Side}
-use Rattle.header.specs.declared.Side.the-variants.{Guest, Host}
 use Rattle.packet.specs.Packet.{partNamed}
-use Rattle.session.specs.declared.Session.{Session}
-use Rattle.session.specs.Session.{linkOf}
 use Rattle.verdict.specs.declared.Handed.{Handed}
 use Rattle.verdict.specs.declared.Handed.the-variants.{Nothing, Passed}
 use Rattle.gate.specs.declared.Answer.{Answer}
-use Rattle.gate.specs.declared.Offered.{Offered}
-use Rattle.gate.specs.Offer.{outcome, offerOf}
 use Rattle.drive.specs.declared.Data.{Data}
-use Rattle.drive.specs.Drive.{placeNumber, recordBytes, ownOf}
+use Rattle.drive.specs.Drive.{placeNumber, recordBytes}
 
 -- the sums wrap, which their four low bytes do not show
 abbrev pub dataIn : Handed → Data
@@ -23,7 +16,3 @@ dataIn (Passed h p) = record { start = (h .size + partNamed p .start) % 2 ^ 64; 
 
 abbrev pub answerBytes : Answer → List ℕ
 answerBytes a = recordBytes (a .number) (placeNumber (a .place)) (a .taken) (a .size) (dataIn (a .handed) .start) (dataIn (a .handed) .end) (dataIn (a .handed) .id)
-
-abbrev pub other : Side → Side
-other Guest = Host
-other Host = Guest

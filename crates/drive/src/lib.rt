@@ -4,12 +4,13 @@ ghost use mathlib.Core.Path.{_≡_};
 ghost use Prim.Native.Nat.{_+_, _≤_};
 ghost use lib.ListN.{length};
 ghost use lib.Seq.{sets};
-ghost use Rattle.drive.specs.Drive.{senderOf, placeNumber, Drives};
+ghost use Rattle.drive.specs.Drive.{placeNumber, Drives};
 ghost use Rattle.drive.specs.Steps.{dataIn, answerBytes};
 use frame::Place;
 use gate::Answer;
 use gate::offer;
 use header::Side;
+use header::side_of;
 use number::get8;
 use number::get32;
 use number::part;
@@ -24,12 +25,6 @@ struct Data {
     start: usize,
     end: usize,
     id: u64,
-}
-
-fn sender_of(b: u8) -> Side
-    ensures { λ r. ⌜ r ≡ senderOf b ⌝ }
-{
-    if b == 0 { Side::Guest } else { Side::Host }
 }
 
 fn place_number(p: Place) -> u64
@@ -97,7 +92,7 @@ pub extern "C" fn drive(script: &[u8], guest: &mut [u8], host: &mut [u8], out: &
         if rest.len() < size {
             return k;
         }
-        let from = sender_of(get8(rest, 0));
+        let from = side_of(get8(rest, 0));
         let piece = part(rest, 5, size);
         let o = match from {
             Side::Guest => offer(s, from, guest, piece),

@@ -11,6 +11,14 @@ use Rattle.header.specs.declared.Hello.{Hello}
 use Rattle.header.specs.declared.Hello.the-variants.{Awaited, Passed}
 use Rattle.header.specs.declared.Link.{Link}
 
+-- a side as a number: 0 for the guest, any other for the host
+abbrev pub sideOf : ℕ → Side
+sideOf n = cond (eqb n 0) Guest Host
+
+abbrev pub opposite : Side → Side
+opposite Guest = Host
+opposite Host = Guest
+
 -- the first capability word of a hello that has passed; one that has not offers nothing
 abbrev pub offered : Hello → ℕ
 offered Awaited = 0

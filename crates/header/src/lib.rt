@@ -1,6 +1,6 @@
 // The two ends, what their hellos offered, the shared set, and the packet header with its two widths.
 ghost use mathlib.Core.Path.{_≡_};
-ghost use Rattle.header.specs.Link.{offered, sharedSet, passed, idWidth};
+ghost use Rattle.header.specs.Link.{sideOf, offered, sharedSet, passed, idWidth};
 ghost use Rattle.header.specs.Header.{headerOf, headerNumber};
 use number::get;
 use number::get32;
@@ -30,6 +30,13 @@ pub struct Header {
     pub length: u32,
     pub id: u64,
     pub size: usize,
+}
+
+// The side of a number: 0 for the guest, any other for the host.
+pub fn side_of(n: u8) -> Side
+    ensures { λ r. ⌜ r ≡ sideOf n ⌝ }
+{
+    if n == 0 { Side::Guest } else { Side::Host }
 }
 
 // The capability word that a hello has offered so far.

@@ -10,11 +10,10 @@ use Rattle.number.specs.Bits.{hasBit}
 use Rattle.endpoint.specs.Endpoint.{rowOf}
 use Rattle.endpoint.specs.declared.RowOf.{RowOf}
 use Rattle.endpoint.specs.declared.RowOf.the-variants.{At, Malformed}
-use Rattle.header.specs.declared.Side.the-variants.{Guest, Host}
 use Rattle.header.specs.declared.Hello.{Hello}
 use Rattle.header.specs.declared.Hello.the-variants.{Awaited, Passed}
 use Rattle.header.specs.declared.Link.{Link}
-use Rattle.header.specs.Link.{sharedSet}
+use Rattle.header.specs.Link.{sharedSet, sideOf}
 use Rattle.kinds.specs.Content.{Value, Content, firstNumber}
 use Rattle.kinds.specs.Codec.{layout, decode, readNumber, writeNumber, writtenSize, written}
 use Rattle.packet.specs.declared.Optional16.{Optional16}
@@ -30,7 +29,7 @@ abbrev pub helloOf : ℕ → Hello
 helloOf word = cond (ltb word 4294967296) (Passed word) Awaited
 
 abbrev pub linkOf : ℕ → ℕ → ℕ → Link
-linkOf sender guest host = record { sender = cond (eqb sender 0) Guest Host; guest = helloOf guest; host = helloOf host }
+linkOf sender guest host = record { sender = sideOf sender; guest = helloOf guest; host = helloOf host }
 
 abbrev pub value16 : Optional16 → ℕ
 value16 Absent = 0

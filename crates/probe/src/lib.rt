@@ -19,6 +19,7 @@ use header::Hello;
 use header::Link;
 use header::Side;
 use header::shared_set;
+use header::side_of;
 use number::has_bit;
 use number::part;
 use packet::Optional16;
@@ -44,18 +45,10 @@ fn link_of(sender: u8, guest: u64, host: u64) -> Link
 {
     let g = hello_of(guest);
     let h = hello_of(host);
-    if sender == 0 {
-        Link {
-            sender: Side::Guest,
-            guest: g,
-            host: h,
-        }
-    } else {
-        Link {
-            sender: Side::Host,
-            guest: g,
-            host: h,
-        }
+    Link {
+        sender: side_of(sender),
+        guest: g,
+        host: h,
     }
 }
 

@@ -14,11 +14,12 @@ use lib.ListN.{length, drop, set, length-set, length-drop}
 use lib.Seq.{sets, slice, drop-drop}
 use Rattle.number.specs.Little.{le}
 use Rattle.header.specs.declared.Side.{Side}
+use Rattle.header.specs.Link.{sideOf}
 use Rattle.session.specs.declared.Session.{Session}
 use Rattle.session.specs.Session.{freshSession, linkOf}
 use Rattle.verdict.specs.declared.Verdict.{Verdict}
 use Rattle.verdict.specs.Verdict.{Told, verdictOf, tells}
-use Rattle.replay.specs.Replay.{senderOf, sizeAt, verdictAt, numbersOf, Replays}
+use Rattle.replay.specs.Replay.{sizeAt, verdictAt, numbersOf, Replays}
 
 -- ---- a script
 
@@ -64,7 +65,7 @@ module _ {script before after : List ℕ} {s : Session} {at k : ℕ} (p : Replay
       → n ≡ le 2 rest 1
       → 3 + n ≤ length rest
       → b ≡ le 1 rest 0
-      → from ≡ senderOf b
+      → from ≡ sideOf b
       → bytes ≡ slice 3 (3 + n) rest
       → tells (linkOf from s) bytes v ≡ verdictOf s from bytes
       → Replaying script before (set after k (v .number)) (v .session) (at + (3 + n)) (k + 1)

@@ -7,18 +7,14 @@ use mathlib.Core.List.{List, [], _∷_}
 use mathlib.Core.Path.{_≡_}
 use lib.ListN.{length, drop}
 use lib.Seq.{sets, slice}
-use lib.Dec.{eqb, leb}
+use lib.Dec.{leb}
 use Rattle.number.specs.Little.{le}
-use Rattle.header.specs.declared.Side.{Side}
-use Rattle.header.specs.declared.Side.the-variants.{Guest, Host}
+use Rattle.header.specs.Link.{sideOf}
 use Rattle.session.specs.declared.Session.{Session}
 use Rattle.session.specs.Session.{freshSession}
 use Rattle.verdict.specs.Verdict.{Told, verdictOf}
 
 -- ---- a script: for each packet a byte for its sender, two for its size, and its bytes
-
-abbrev pub senderOf : ℕ → Side
-senderOf b = cond (eqb b 0) Guest Host
 
 -- what a packet takes of the script
 abbrev pub sizeAt : List ℕ → ℕ
@@ -28,7 +24,7 @@ abbrev pub isWhole : List ℕ → Bool
 isWhole script = leb (sizeAt script) (length script)
 
 abbrev pub verdictAt : Session → List ℕ → Told
-verdictAt s script = verdictOf s (senderOf (le 1 script 0)) (slice 3 (sizeAt script) script)
+verdictAt s script = verdictOf s (sideOf (le 1 script 0)) (slice 3 (sizeAt script) script)
 
 -- the numbers of the script's packets, at most so many
 unfoldable pub numbersOf : ℕ → Session → List ℕ → List ℕ

@@ -1,19 +1,13 @@
 // Packets judged whole, one after the other, from a fresh session: for hosts in other languages that test the session. It is not the
 // gate: it holds nothing and never stops.
 ghost use mathlib.Core.Path.{_≡_};
-ghost use Rattle.replay.specs.Replay.{senderOf, Replays};
-use header::Side;
+ghost use Rattle.replay.specs.Replay.{Replays};
+use header::side_of;
 use number::get8;
 use number::get16;
 use number::part;
 use session::fresh_session;
 use verdict::verdict_of;
-
-fn sender_of(b: u8) -> Side
-    ensures { λ r. ⌜ r ≡ senderOf b ⌝ }
-{
-    if b == 0 { Side::Guest } else { Side::Host }
-}
 
 // Writes the number of each packet of a script, as far as the script and the output go, and tells how many.
 #[no_mangle]
@@ -29,7 +23,7 @@ pub extern "C" fn replay(script: &[u8], out: &mut [u8]) -> usize
         if rest.len() < size {
             return k;
         }
-        let v = verdict_of(s, sender_of(get8(rest, 0)), part(rest, 3, size));
+        let v = verdict_of(s, side_of(get8(rest, 0)), part(rest, 3, size));
         out[k] = v.number;
         s = v.session;
         at = at + size;

@@ -58,8 +58,8 @@ returns c =
 get8-requires : tie.Need-get8-requires Inv-loop μ-loop
 get8-requires c κs = search needs
 
-sender-of-requires : tie.Need-sender-of-requires Inv-loop μ-loop
-sender-of-requires c κs = search needs
+side-of-requires : tie.Need-side-of-requires Inv-loop μ-loop
+side-of-requires c κs = search needs
 
 part-requires : tie.Need-part-requires Inv-loop μ-loop
 part-requires c κs = search needs
@@ -78,7 +78,7 @@ offer-requires-2 c κs = search needs
 
 -- either arm is a reader call over the sender's own buffer
 offered : (c : tie.At-match-came Inv-loop μ-loop)
-    → OffersTo (c .before .before .sender-of .result) (c .before .before .before .before .before .before .before .before .loop .s) (c .before .before .before .before .before .before .before .before .loop .guest) (c .before .before .before .before .before .before .before .before .loop .host) (now (c .before .part .result)) (c .match .o) (c .match .guest) (c .match .host)
+    → OffersTo (c .before .before .side-of .result) (c .before .before .before .before .before .before .before .before .loop .s) (c .before .before .before .before .before .before .before .before .loop .guest) (c .before .before .before .before .before .before .before .before .loop .host) (now (c .before .part .result)) (c .match .o) (c .match .guest) (c .match .host)
 offered c =
     ⊎-elim
     (λ w. offers-guest (w .1 .given .1) (w .3 .ensures) (w .3 .kept .1 .1 .0) (w .6) (w .7) (w .8))
@@ -113,7 +113,7 @@ loop-again c =
     let m = c .before .before .before .before .before .before in
     let i = m .before .before .before .before in
     let a = i .before .before .before in
-    drive-goes-on (a .before .loop .inv) (a .loop-test .taken) (part-to-end (a .before .before .before .before .before .before .before .args .script .now) (a .before .loop .at)) (i .before .get32 .ensures) (i .if1 .left) (m .before .before .before .get8 .ensures) (m .before .before .sender-of .ensures) (m .before .part .ensures) (offered m) (c .before .before .put-record .ensures)
+    drive-goes-on (a .before .loop .inv) (a .loop-test .taken) (part-to-end (a .before .before .before .before .before .before .before .args .script .now) (a .before .loop .at)) (i .before .get32 .ensures) (i .if1 .left) (m .before .before .before .get8 .ensures) (m .before .before .side-of .ensures) (m .before .part .ensures) (offered m) (c .before .before .put-record .ensures)
 
 same-length-4 : tie.Need-same-length-4 Inv-loop μ-loop
 same-length-4 c = search needs
@@ -146,7 +146,7 @@ drive-spec =
     same-length-3
     returns
     get8-requires
-    sender-of-requires
+    side-of-requires
     part-requires
     enum-told
     offer-requires

@@ -50,8 +50,8 @@ returns c =
 get8-requires : tie.Need-get8-requires Inv-loop μ-loop
 get8-requires c κs = search needs
 
-sender-of-requires : tie.Need-sender-of-requires Inv-loop μ-loop
-sender-of-requires c κs = search needs
+side-of-requires : tie.Need-side-of-requires Inv-loop μ-loop
+side-of-requires c κs = search needs
 
 part-requires : tie.Need-part-requires Inv-loop μ-loop
 part-requires c κs = search needs
@@ -78,7 +78,7 @@ loop-less c = search needs
 loop-again : tie.Need-loop-again Inv-loop μ-loop
 loop-again c =
     let a = c .before .before .before .before .before .before .before .before in
-    replay-goes-on (a .before .loop .inv) (c .before .verdict-of .result) (a .loop-test .taken) (part-to-end (a .before .before .before .before .before .args .script .now) (a .before .loop .at)) (c .before .before .before .before .before .before .get16 .ensures) (c .before .before .before .before .before .if1 .left) (c .before .before .before .before .get8 .ensures) (c .before .before .before .sender-of .ensures) (c .before .before .part .ensures) (c .before .verdict-of .ensures)
+    replay-goes-on (a .before .loop .inv) (c .before .verdict-of .result) (a .loop-test .taken) (part-to-end (a .before .before .before .before .before .args .script .now) (a .before .loop .at)) (c .before .before .before .before .before .before .get16 .ensures) (c .before .before .before .before .before .if1 .left) (c .before .before .before .before .get8 .ensures) (c .before .before .before .side-of .ensures) (c .before .before .part .ensures) (c .before .verdict-of .ensures)
 
 same-length-2 : tie.Need-same-length-2 Inv-loop μ-loop
 same-length-2 c = search needs
@@ -103,7 +103,7 @@ replay-spec =
     same-length
     returns
     get8-requires
-    sender-of-requires
+    side-of-requires
     part-requires
     verdict-of-requires
     slice-write-out
