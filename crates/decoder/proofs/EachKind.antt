@@ -18,8 +18,8 @@ use Rattle.kinds.specs.Codec.{layout, contentAt}
 use Rattle.kinds.specs.Laws.{split-full}
 use Rattle.packet.specs.declared.Packet.{Packet}
 use Rattle.packet.specs.declared.Packet.the-variants.{Hello, Connect, Disconnect, Reset, InterfaceTable, EndpointTable, SetConfiguration, GetConfiguration, ConfigurationStatus, SetAlt, GetAlt, AltStatus, StartIso, StopIso, IsoStatus, StartInterrupt, StopInterrupt, InterruptStatus, AllocStreams, FreeStreams, StreamsStatus, Cancel, FilterReject, Filter, DisconnectAck, StartBulkReceiving, StopBulkReceiving, BulkReceivingStatus, Control, Bulk, Iso, Interrupt, BufferedBulk}
-use Rattle.packet.specs.Packet.{contentOf, optional, high, said, carrying}
-use Rattle.decoder.specs.Body.{Fits, ReadsBody, optionalOf, bulkCount}
+use Rattle.packet.specs.Packet.{contentOf, optional, high, said, carrying, optional16Of}
+use Rattle.decoder.specs.Body.{Fits, ReadsBody, bulkCount}
 
 none-left : (body : List ℕ) (n : ℕ) → length body ≡ n → drop n body ≡ []
 none-left body n e = let h : length body ≤ n = omega (arith, e) in drop-of-length-le body h
@@ -171,15 +171,15 @@ buffered-bulk caps body f =
 
 -- ---- the kinds with a field that may be absent, and the tables
 
-optional-value : (b : Bool) (x : ℕ) → optional (optionalOf b x) ≡ cond b (one x) none
+optional-value : (b : Bool) (x : ℕ) → optional (optional16Of b x) ≡ cond b (one x) none
 optional-value true x = refl
 optional-value false x = refl
 
 pub connect : (caps : ℕ) (body : List ℕ) → Fits caps 1 body
-    → ReadsBody caps 1 body (Connect (le 1 body 0) (le 1 body 1) (le 1 body 2) (le 1 body 3) (le 2 body 4) (le 2 body 6) (optionalOf (hasBit caps 1) (le 2 body 8)))
+    → ReadsBody caps 1 body (Connect (le 1 body 0) (le 1 body 1) (le 1 body 2) (le 1 body 3) (le 2 body 4) (le 2 body 6) (optional16Of (hasBit caps 1) (le 2 body 8)))
 unfolding kinds layout contentOf contentAt
 connect caps body f =
-    let v : Value = optional (optionalOf (hasBit caps 1) (le 2 body 8)) in
+    let v : Value = optional (optional16Of (hasBit caps 1) (le 2 body 8)) in
     let e : v ≡ cond (hasBit caps 1) (one (le 2 body 8)) none = optional-value (hasBit caps 1) (le 2 body 8) in
     record {
       content = λ id.

@@ -2,7 +2,7 @@
 -- Assumes nothing: these are definitions.
 use Prim.Native.Nat.{ℕ, _+_, _*_, _≤_, _<_}
 use mathlib.Core.Path.{_≡_}
-use mathlib.Core.Bool.{Bool, true, false, cond, not, _&&_, _||_}
+use mathlib.Core.Bool.{true, false, cond, not, _&&_, _||_}
 use mathlib.Core.List.{List}
 use mathlib.Core.Option.{none, some}
 use lib.ListN.{length}
@@ -16,16 +16,11 @@ use Rattle.kinds.specs.Table.{kindAt}
 use Rattle.kinds.specs.Content.{shared, size}
 use Rattle.kinds.specs.Number.{sends, inOrder, wireNumber}
 use Rattle.kinds.specs.Codec.{contentAt}
-use Rattle.packet.specs.declared.Optional16.{Optional16}
-use Rattle.packet.specs.declared.Optional16.the-variants.{Absent, Present}
 use Rattle.packet.specs.declared.Packet.{Packet}
 use Rattle.packet.specs.Packet.{shownOf, contentOf}
 use Rattle.decoder.specs.declared.Reading.{Reading}
 use Rattle.decoder.specs.Reading.{Told, carries, partAt}
 use Rattle.decoder.specs.declared.Reading.the-variants.{Refused, Passed}
-
-abbrev pub optionalOf : Bool → ℕ → Optional16
-optionalOf b x = cond b (Present x) Absent
 
 abbrev pub bulkCount : ℕ → List ℕ → ℕ
 bulkCount caps body = cond (hasBit caps 6) (le 2 body 2 + 65536 * le 2 body 8) (le 2 body 2)

@@ -4,8 +4,9 @@ ghost use Prim.Native.Nat.{_<_, _^_};
 ghost use lib.ListN.{length};
 ghost use Rattle.number.specs.Little.{le};
 ghost use Rattle.kinds.specs.Table.{kindAt};
+ghost use Rattle.packet.specs.Packet.{optional16Of};
 ghost use Rattle.decoder.specs.Reading.{told, readOf, carries};
-ghost use Rattle.decoder.specs.Body.{Fits, ReadsBody, ReadsKind, optionalOf, bulkCount, misfitNumber};
+ghost use Rattle.decoder.specs.Body.{Fits, ReadsBody, ReadsKind, bulkCount, misfitNumber};
 use endpoint::Endpoint;
 use header::Header;
 use header::Link;
@@ -23,6 +24,7 @@ use number::has_bit;
 use packet::Optional16;
 use packet::Packet;
 use packet::Part;
+use packet::given16;
 use rules::in_order;
 use rules::is_wide;
 use rules::wire_number;
@@ -43,14 +45,10 @@ fn after(body: &[u8], at: usize) -> Part
     }
 }
 
-fn optional16(b: bool, body: &[u8], at: usize) -> Optional16
-    ensures { λ r. ⌜ r ≡ optionalOf b (le 2 (now (body .entry)) at) ⌝ }
+fn optional_at(b: bool, body: &[u8], at: usize) -> Optional16
+    ensures { λ r. ⌜ r ≡ optional16Of b (le 2 (now (body .entry)) at) ⌝ }
 {
-    if b {
-        Optional16::Present(get16(body, at))
-    } else {
-        Optional16::Absent
-    }
+    given16(b, get16(body, at))
 }
 
 // "The bulk count is low + 65,536 times high, or low without bit 6."
@@ -89,7 +87,7 @@ fn read_body(caps: u32, slot: usize, body: &[u8]) -> Packet
             protocol: get8(body, 3),
             vendor: get16(body, 4),
             product: get16(body, 6),
-            version: optional16(has_bit(caps, 1), body, 8),
+            version: optional_at(has_bit(caps, 1), body, 8),
         },
         2 => Packet::Disconnect,
         3 => Packet::Reset,

@@ -37,6 +37,10 @@ carrying k vs p = record { kind = k; front = vs; part = p; columns = λ b. true 
 abbrev pub plain : ℕ → List Value → Shown
 plain k vs = carrying k vs (record { start = 0; end = 0 })
 
+-- a field that is there where b holds
+abbrev pub optional16Of : Bool → ℕ → Optional16
+optional16Of b x = cond b (Present x) Absent
+
 abbrev pub optional : Optional16 → Value
 optional Absent = none
 optional (Present x) = one x

@@ -2,7 +2,7 @@
 // What does not fit a field stays in the packet's body and is named by its part: a hello's version and words, the rows of the
 // two tables, a filter's string, data. Offsets count from the body's first byte.
 ghost use mathlib.Core.Path.{_≡_};
-ghost use Rattle.packet.specs.Packet.{inPart, partNamed, isHello};
+ghost use Rattle.packet.specs.Packet.{inPart, optional16Of, partNamed, isHello};
 use endpoint::Endpoint;
 use number::part;
 
@@ -153,6 +153,17 @@ pub enum Packet {
         status: u8,
         data: Part,
     },
+}
+
+// A field that is there where b holds.
+pub fn given16(b: bool, x: u16) -> Optional16
+    ensures { λ r. ⌜ r ≡ optional16Of b x ⌝ }
+{
+    if b {
+        Optional16::Present(x)
+    } else {
+        Optional16::Absent
+    }
 }
 
 // The bytes that a part names, as far as the body has them.

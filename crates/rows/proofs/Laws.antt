@@ -22,9 +22,9 @@ use Rattle.kinds.specs.Laws.{length-numbers}
 use Rattle.rows.specs.declared.EndpointRow.{EndpointRow}
 use Rattle.rows.specs.declared.InterfaceRow.{InterfaceRow}
 use Rattle.packet.specs.declared.Optional16.the-variants.{Absent, Present}
-use Rattle.packet.specs.Packet.{columnsOf}
+use Rattle.packet.specs.Packet.{columnsOf, optional16Of}
 use Rattle.rows.specs.declared.Optional32.the-variants.{Present as Present32}
-use Rattle.rows.specs.Rows.{cellAt, element, optional16Of, optional32Of, interfaceRow, endpointRow}
+use Rattle.rows.specs.Rows.{cellAt, element, optional32Of, interfaceRow, endpointRow}
 
 at-number : (w n : ℕ) (s : List ℕ) (at i : ℕ) → i < n → getD (numbers w n s at) i 0 ≡ le w s (at + i * w)
 at-number w zero s at i h = absurd (not-suc-le-zero h)

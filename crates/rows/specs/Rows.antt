@@ -12,13 +12,11 @@ use Rattle.number.specs.Little.{le}
 use Rattle.kinds.specs.Table.{Field}
 use Rattle.kinds.specs.Content.{Value, numbers, split}
 use Rattle.kinds.specs.Codec.{layout}
-use Rattle.packet.specs.Packet.{columnsOf}
+use Rattle.packet.specs.Packet.{columnsOf, optional16Of}
 use Rattle.rows.specs.declared.InterfaceRow.{InterfaceRow}
 use Rattle.rows.specs.declared.EndpointRow.{EndpointRow}
-use Rattle.packet.specs.declared.Optional16.{Optional16}
-use Rattle.packet.specs.declared.Optional16.the-variants.{Absent, Present}
 use Rattle.rows.specs.declared.Optional32.{Optional32}
-use Rattle.rows.specs.declared.Optional32.the-variants.{Absent as Absent32, Present as Present32}
+use Rattle.rows.specs.declared.Optional32.the-variants.{Absent, Present}
 
 abbrev pub numbersOf : Value → List ℕ
 numbersOf none = []
@@ -51,11 +49,8 @@ interfaceRow rows i =
 
 -- ---- endpoint tables, with max packet and max streams or without
 
-abbrev pub optional16Of : Bool → ℕ → Optional16
-optional16Of b x = cond b (Present x) Absent
-
 abbrev pub optional32Of : Bool → ℕ → Optional32
-optional32Of b x = cond b (Present32 x) Absent32
+optional32Of b x = cond b (Present x) Absent
 
 unfoldable pub endpointRow : List ℕ → Bool → Bool → ℕ → EndpointRow
 endpointRow rows packets streams i =

@@ -3,7 +3,7 @@ ghost use mathlib.Core.Path.{_≡_};
 ghost use Prim.Native.Nat.{_≤_, _<_, _^_};
 ghost use lib.ListN.{take, drop};
 ghost use Rattle.packet.specs.Packet.{inPart};
-ghost use Rattle.rows.specs.Rows.{cellAt, interfaceRow, endpointRow, optional16Of, optional32Of, wordOf};
+ghost use Rattle.rows.specs.Rows.{cellAt, interfaceRow, endpointRow, optional32Of, wordOf};
 use endpoint::Row;
 use number::choose;
 use number::get;
@@ -11,6 +11,7 @@ use number::get32;
 use number::part;
 use packet::Optional16;
 use packet::Part;
+use packet::given16;
 use packet::part_of;
 
 // A word or a column's number that may not be there.
@@ -66,16 +67,6 @@ pub fn interface_row(body: &[u8], rows: Part, i: usize) -> InterfaceRow
         class: cell8(s, 32, i),
         subclass: cell8(s, 64, i),
         protocol: cell8(s, 96, i),
-    }
-}
-
-fn given16(b: bool, x: u16) -> Optional16
-    ensures { λ r. ⌜ r ≡ optional16Of b x ⌝ }
-{
-    if b {
-        Optional16::Present(x)
-    } else {
-        Optional16::Absent
     }
 }
 

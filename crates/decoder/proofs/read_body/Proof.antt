@@ -30,8 +30,8 @@ get16-requires-2 c κs = search needs
 has-bit-requires : tie.Need-has-bit-requires
 has-bit-requires c κs = search needs
 
-optional16-requires : tie.Need-optional16-requires
-optional16-requires c κs = search needs
+optional-at-requires : tie.Need-optional-at-requires
+optional-at-requires c κs = search needs
 
 get32-requires : tie.Need-get32-requires
 get32-requires c κs = search needs
@@ -244,7 +244,7 @@ returns : tie.Need-returns
 returns c = reads-by (hello _ _) (c .before .before .before .pre) (c .before .match .keys1) (rw (c .after .ensures))
 
 returns-2 : tie.Need-returns-2
-returns-2 c = reads-by (connect _ _) (c .before .before .before .before .before .before .before .before .before .before .pre) (c .before .before .before .before .before .before .before .before .match .keys2) (rw (c .optional16 .ensures, c .before .has-bit .ensures, c .before .before .get162 .ensures, c .before .before .before .get16 .ensures, c .before .before .before .before .get84 .ensures, c .before .before .before .before .before .get83 .ensures, c .before .before .before .before .before .before .get82 .ensures, c .before .before .before .before .before .before .before .get8 .ensures))
+returns-2 c = reads-by (connect _ _) (c .before .before .before .before .before .before .before .before .before .before .pre) (c .before .before .before .before .before .before .before .before .match .keys2) (rw (c .optional-at .ensures, c .before .has-bit .ensures, c .before .before .get162 .ensures, c .before .before .before .get16 .ensures, c .before .before .before .before .get84 .ensures, c .before .before .before .before .before .get83 .ensures, c .before .before .before .before .before .before .get82 .ensures, c .before .before .before .before .before .before .before .get8 .ensures))
 
 returns-3 : tie.Need-returns-3
 returns-3 c = reads-by (disconnect _ _) (c .before .before .pre) (c .match .keys3) refl
@@ -351,7 +351,7 @@ read-body-spec =
     get16-requires
     get16-requires-2
     has-bit-requires
-    optional16-requires
+    optional-at-requires
     get32-requires
     after-requires-2
     after-requires-3

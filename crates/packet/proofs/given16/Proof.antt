@@ -1,8 +1,8 @@
--- `rows::given16` meets its contract: by the test that was taken.
+-- `packet::given16` meets its contract: by the test that was taken.
 -- Assumes nothing.
 use borrow.Author.Needs.{needs}
-use Rattle.rows.proofs.given16.Statement.{statement}
-use Rattle.rows.proofs.given16.Tie as tie
+use Rattle.packet.proofs.given16.Statement.{statement}
+use Rattle.packet.proofs.given16.Tie as tie
 
 returns : tie.Need-returns
 returns c = rw (c .if1 .taken)
