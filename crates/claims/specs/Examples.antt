@@ -18,6 +18,7 @@ use Rattle.kinds.specs.Number.{onward, bad, kindNumber, wireNumber}
 use Rattle.scan.specs.Scan.{firstAt, exists, anyAt, eachAt}
 use Rattle.device.specs.Device.{startRows, startDevice, replaced, streamTo, closed, touched}
 use Rattle.requests.specs.Requests.{freshRequests, lowest, withPlace, released}
+use Rattle.kinds.specs.Examples.{packet}
 use Rattle.events.specs.Meaning.{meanings}
 use Rattle.events.specs.Event.{meaningOf, eventOf}
 use Rattle.checks.specs.Checks.{matchOf, numberFor}
@@ -30,7 +31,7 @@ use Rattle.claims.specs.Runs.{Sent}
 -- ---- packets
 
 abbrev carrying : Side → ℕ → ℕ → List Value → List ℕ → Sent
-carrying from kind id fs rest = record { from = from; packet = record { kind = kind; id = id; fields = fs; rest = rest } }
+carrying from kind id fs rest = record { from = from; packet = packet kind id fs rest }
 
 abbrev sent : Side → ℕ → ℕ → List Value → Sent
 sent from kind id fs = carrying from kind id fs []

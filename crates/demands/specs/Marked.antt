@@ -18,7 +18,7 @@ use Rattle.header.specs.declared.Hello.the-variants.{Passed}
 use Rattle.header.specs.Link.{sharedSet, idWidth}
 use Rattle.header.specs.Header.{headerSize, headerBytes, headerNumber}
 use Rattle.kinds.specs.Table.{kinds}
-use Rattle.kinds.specs.Content.{Value, one, Content}
+use Rattle.kinds.specs.Content.{one, Content}
 use Rattle.kinds.specs.Codec.{layout, contentAt, decode, encode, readNumber, packetNumber, writeNumber, written, writtenSize}
 use Rattle.kinds.specs.Number.{bad, kindNumber, wireNumber}
 use Rattle.scan.specs.Scan.{firstAt, exists, anyAt, eachAt}
@@ -26,6 +26,7 @@ use Rattle.device.specs.declared.Introduction.the-variants.{Two}
 use Rattle.device.specs.Device.{bulk, startRows, startDevice, replaced, streamTo, closed, touched}
 use Rattle.requests.specs.declared.Place.{Place}
 use Rattle.requests.specs.Requests.{freshRequests, taken, idsDiffer, clashes, lowest, withPlace, released}
+use Rattle.kinds.specs.Examples.{packet}
 use Rattle.events.specs.Meaning.{meanings}
 use Rattle.events.specs.Event.{meaningOf, eventOf}
 use Rattle.checks.specs.Checks.{matchOf, numberFor}
@@ -76,9 +77,6 @@ abbrev put : ℕ → Side → Content → List ℕ
 put word from p = take (outputSize from (connected word .session) p 64) (output from (connected word .session) p (replicate 64 0))
 
 -- ---- packets
-
-abbrev packet : ℕ → ℕ → List Value → List ℕ → Content
-packet kind id fields rest = record { kind = kind; id = id; fields = fields; rest = rest }
 
 abbrev getConfiguration : ℕ → Content
 getConfiguration id = packet 7 id [] []

@@ -104,7 +104,7 @@ spelt = (refl, refl, refl)
 
 -- ---- numbers
 
-abbrev packet : ℕ → ℕ → List Value → List ℕ → Content
+abbrev pub packet : ℕ → ℕ → List Value → List ℕ → Content
 packet kind id fields rest = record { kind = kind; id = id; fields = fields; rest = rest }
 
 -- the number of a packet where both hellos have passed and offered these
