@@ -160,14 +160,14 @@ handed-in-gate from s hold piece h =
 
 -- "Reader and writer follow the same definition": a packet is written exactly when the call is not shut by 43, 3 or 2, the same wire checks
 -- find nothing, and the output has room
-pub record Written (from : Side) (s : Session) (p : Content) (space : ℕ) : Type 0 where
+pub record Writable (from : Side) (s : Session) (p : Content) (space : ℕ) : Type 0 where
   pub going : shut from s (eqb (p .kind) 0) ≡ 0
   pub header : headerNumber (linkOf from s) (p .kind) (bodyLength (linkOf from s) p) ≡ 0
   pub form : wireNumber (linkOf from s) p ≡ 0
   pub room : length (encode (linkOf from s) p) ≤ space
 
 -- `orNext` of two numbers is 0 exactly where both are (`both-zero`)
-pub writer-exactly : (from : Side) (s : Session) (p : Content) (room : ℕ) → (writeBy from s p room ≡ 0) ↔ Written from s p room
+pub writer-exactly : (from : Side) (s : Session) (p : Content) (room : ℕ) → (writeBy from s p room ≡ 0) ↔ Writable from s p room
 unfolding writeBy writeNumber packetNumber
 writer-exactly from s p room = (written, writing)
   where
@@ -178,12 +178,12 @@ writer-exactly from s p room = (written, writing)
     roomy true t e = absurd (omega (arith, e))
     roomy false t e = ltb-false room (length (encode (linkOf from s) p)) t
 
-    written : writeBy from s p room ≡ 0 → Written from s p room
+    written : writeBy from s p room ≡ 0 → Writable from s p room
     written e =
         let a = both-zero (shut from s (eqb (p .kind) 0)) (writeNumber (linkOf from s) p room) e in
         let b = both-zero (packetNumber (linkOf from s) p) (cond full 40 0) (a .1) in
         let c = both-zero (headerNumber (linkOf from s) (p .kind) (bodyLength (linkOf from s) p)) (wireNumber (linkOf from s) p) (b .0) in
         record { going = a .0; header = c .0; form = c .1; room = roomy full refl (b .1) }
 
-    writing : Written from s p room → writeBy from s p room ≡ 0
+    writing : Writable from s p room → writeBy from s p room ≡ 0
     writing w = simp (w .going, w .header, w .form, le-ltb room (length (encode (linkOf from s) p)) (w .room))

@@ -37,7 +37,7 @@ use Rattle.encoder.specs.declared.Written.{Written}
 use Rattle.gate.specs.Write.{shut, writeBy, output, outputSize, WritesBy}
 use Rattle.gate.specs.Laws.{completed-length, more-few, Ready, not-barred, fit-is, is-fit, held-few}
 use Rattle.demands.specs.Numbers.{Each, session-numbers}
-use Rattle.demands.specs.Kept.{kept-front, held-as, same-held, Sound, Keeps, offer-keeps}
+use Rattle.demands.specs.Kept.{kept-front, held-as, same-held, Established, Keeps, offer-keeps}
 
 -- ---- the reader of a direction
 
@@ -72,7 +72,7 @@ otherBy from x piece =
 
 -- what every call keeps
 pub record SoundState (x : State) : Type 0 where
-  pub session : Sound (x .session)
+  pub session : Established (x .session)
   -- "a buffer that 41 allows"
   pub room : 32784 ≤ length (x .hold)
 
@@ -140,7 +140,7 @@ opposite-twice Guest = refl
 opposite-twice Host = refl
 
 -- with both hellos passed no direction waits
-speaking : (from : Side) (s : Session) → Sound s → isWaiting (linkOf from s) ≡ false
+speaking : (from : Side) (s : Session) → Established s → isWaiting (linkOf from s) ≡ false
 speaking from s h = rw (h .guest, h .host) (neither (passed (own (linkOf from s))))
   where
     neither : (b : Bool) → (b && false) ≡ false
@@ -167,7 +167,7 @@ module _ (from : Side) (x : State) (piece : List ℕ) (h : SoundState x) where
   same-link d = λ i. record { sender = d; guest = keeps .guest i; host = keeps .host i }
 
   after : length (offerOf from (x .session) (x .hold) piece .hold) ≡ length (x .hold) → Kept usbredir (reader from) x (readBy from x piece .next)
-  after e = record { ctx = same-link from; sound = record { session = keeps .sound; room = rw e (h .room) } }
+  after e = record { ctx = same-link from; sound = record { session = keeps .established; room = rw e (h .room) } }
 
 -- ---- the laws of the reader
 
@@ -253,7 +253,7 @@ other-call : (from : Side) (x : State) (piece : List ℕ) → SoundState x → K
 other-call from x piece h =
     let k = offer-keeps (opposite from) (x .session) (x .other) piece (h .session) in
     let e : heldOf from (otherBy from x piece .session) ≡ heldOf from (x .session) = subst (λ (d : Side). heldOf d (otherBy from x piece .session) ≡ heldOf d (x .session)) (opposite-twice from) (k .held) in (
-      record { ctx = λ i. record { sender = from; guest = k .guest i; host = k .host i }; sound = record { session = k .sound; room = h .room } },
+      record { ctx = λ i. record { sender = from; guest = k .guest i; host = k .host i }; sound = record { session = k .established; room = h .room } },
       ap (λ (n : ℕ). take n (x .hold)) e,
     )
 
@@ -294,13 +294,13 @@ pub record Starts (from : Side) (x : State) : Type 0 where
   pub room : 32784 ≤ length (x .hold)
 
 module _ (from : Side) (x : State) (h : Starts from x) where
-  sound : Sound (x .session)
-  sound = record { guest = h .guest; host = h .host; fit = fit-is (x .session) (h .fit) }
+  established : Established (x .session)
+  established = record { guest = h .guest; host = h .host; fit = fit-is (x .session) (h .fit) }
 
   -- no writer call from there is shut by 43, 3 or 2
   going : (hello : Bool) → shut from (x .session) hello ≡ 0
   unfolding shut
-  going hello = rw (h .fit, h .running, speaking from (x .session) sound) refl
+  going hello = rw (h .fit, h .running, speaking from (x .session) established) refl
 
   -- and 11 cannot be
   own-passed : passed (own (linkOf from (x .session))) ≡ false → ⊥
@@ -340,5 +340,5 @@ module _ (from : Side) (x : State) (h : Starts from x) where
 pub demand-3 : (from : Side) (x : State) → Starts from x → Demand3 usbredir (reader from) (writer from (x .session)) x
 demand-3 from x s =
     demand3 usbredir laws (reader from) (reader-laws from) x
-    (record { sound = record { session = sound from x s; room = s .room }; running = s .running; fresh = ap (λ (n : ℕ). take n (x .hold)) (s .nothing-held) })
+    (record { sound = record { session = established from x s; room = s .room }; running = s .running; fresh = ap (λ (n : ℕ). take n (x .hold)) (s .nothing-held) })
     (writer from (x .session)) (writer-laws from x s)

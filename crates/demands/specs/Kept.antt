@@ -99,7 +99,7 @@ held-as Host s n = refl
 
 -- ---- what is kept
 
-pub record Sound (s : Session) : Type 0 where
+pub record Established (s : Session) : Type 0 where
   -- "both hellos passed"
   pub guest : passed (s .guest) ≡ true
   pub host : passed (s .host) ≡ true
@@ -108,26 +108,26 @@ pub record Sound (s : Session) : Type 0 where
 
 -- what a call for direction d leaves of a session s
 pub record Keeps (d : Side) (s t : Session) : Type 0 where
-  pub sound : Sound t
+  pub established : Established t
   pub guest : t .guest ≡ s .guest
   pub host : t .host ≡ s .host
   pub held : heldOf (opposite d) t ≡ heldOf (opposite d) s
 
-keeps-all : (d : Side) (s : Session) → Sound s → Keeps d s s
-keeps-all d s h = record { sound = h; guest = refl; host = refl; held = refl }
+keeps-all : (d : Side) (s : Session) → Established s → Keeps d s s
+keeps-all d s h = record { established = h; guest = refl; host = refl; held = refl }
 
 keeps-on : (d : Side) (s t u : Session) → Keeps d s t → Keeps d t u → Keeps d s u
-keeps-on d s t u a b = record { sound = b .sound; guest = b .guest ∙ a .guest; host = b .host ∙ a .host; held = b .held ∙ a .held }
+keeps-on d s t u a b = record { established = b .established; guest = b .guest ∙ a .guest; host = b .host ∙ a .host; held = b .held ∙ a .held }
 
 -- with both hellos passed, 43 asks of a held count only that it is at most 32,783
 count-fits : (own other : Hello) (n : ℕ) → passed other ≡ true → n ≤ 32783 → FitCount own other n
 count-fits own other n p h = record { few = h; none-waiting = λ a b. absurd (true≢false (sym p ∙ b)) }
 
 -- a call that leaves so many bytes held in its direction
-counted : (d : Side) (s : Session) (n : ℕ) → Sound s → n ≤ 32783 → Keeps d s (heldAs d n s)
+counted : (d : Side) (s : Session) (n : ℕ) → Established s → n ≤ 32783 → Keeps d s (heldAs d n s)
 counted Guest s n h few =
     record {
-      sound =
+      established =
           record {
             guest = h .guest;
             host = h .host;
@@ -139,7 +139,7 @@ counted Guest s n h few =
     }
 counted Host s n h few =
     record {
-      sound =
+      established =
           record {
             guest = h .guest;
             host = h .host;
@@ -150,16 +150,16 @@ counted Host s n h few =
       held = refl;
     }
 
-halted : (d : Side) (s : Session) → Sound s → Keeps d s (stoppedNow s)
-halted Guest s h = record { sound = record { guest = h .guest; host = h .host; fit = record { guest = h .fit .guest; host = h .fit .host; ids = h .fit .ids; control = h .fit .control } }; guest = refl; host = refl; held = refl }
-halted Host s h = record { sound = record { guest = h .guest; host = h .host; fit = record { guest = h .fit .guest; host = h .fit .host; ids = h .fit .ids; control = h .fit .control } }; guest = refl; host = refl; held = refl }
+halted : (d : Side) (s : Session) → Established s → Keeps d s (stoppedNow s)
+halted Guest s h = record { established = record { guest = h .guest; host = h .host; fit = record { guest = h .fit .guest; host = h .fit .host; ids = h .fit .ids; control = h .fit .control } }; guest = refl; host = refl; held = refl }
+halted Host s h = record { established = record { guest = h .guest; host = h .host; fit = record { guest = h .fit .guest; host = h .fit .host; ids = h .fit .ids; control = h .fit .control } }; guest = refl; host = refl; held = refl }
 
 pub same-held : (d : Side) (s t : Session) → t .held ≡ s .held → heldOf d t ≡ heldOf d s
 same-held Guest s t e = λ i. e i .guest
 same-held Host s t e = λ i. e i .host
 
 -- a packet that came out of the wire checks
-passing : (d : Side) (s : Session) (p : Content) → Sound s → wireNumber (linkOf d s) p ≡ 0 → Keeps d s (judged s (eventOf d p) .session)
+passing : (d : Side) (s : Session) (p : Content) → Established s → wireNumber (linkOf d s) p ≡ 0 → Keeps d s (judged s (eventOf d p) .session)
 passing d s p h w =
     let e : Event = eventOf d p in
     let k = kept-hellos s e in
@@ -168,7 +168,7 @@ passing d s p h w =
     let q = kept-plain s e .held in
     let back = sym q in
     record {
-      sound =
+      established =
           record {
             guest = ap passed g ∙ h .guest;
             host = ap passed o ∙ h .host;
@@ -185,7 +185,7 @@ passing d s p h w =
       held = same-held (opposite d) s (judged s e .session) q;
     }
 
-refusing : (d : Side) (s : Session) (kind : ℕ) → Sound s → Keeps d s (refusedAs s kind)
+refusing : (d : Side) (s : Session) (kind : ℕ) → Established s → Keeps d s (refusedAs s kind)
 refusing d s kind h = go (eqb kind 0)
   where
     go : (b : Bool) → Keeps d s (cond b (stoppedNow s) s)
@@ -193,7 +193,7 @@ refusing d s kind h = go (eqb kind 0)
     go false = keeps-all d s h
 
 -- a whole packet
-judging : (d : Side) (s : Session) (b : List ℕ) (n : ℕ) → Sound s → cutAt (linkOf d s) b ≡ whole n → Keeps d s (verdictOf s d (take n b) .session)
+judging : (d : Side) (s : Session) (b : List ℕ) (n : ℕ) → Established s → cutAt (linkOf d s) b ≡ whole n → Keeps d s (verdictOf s d (take n b) .session)
 unfolding verdictOf
 judging d s b n h e =
     cases (eqb (readNumber (linkOf d s) (take n b)) 0)
@@ -201,7 +201,7 @@ judging d s b n h e =
     (λ t. rw t (refusing d s (kindOf (take n b)) h))
 
 -- every reader call
-pub offer-keeps : (d : Side) (s : Session) (hold piece : List ℕ) → Sound s → Keeps d s (offerOf d s hold piece .session)
+pub offer-keeps : (d : Side) (s : Session) (hold piece : List ℕ) → Established s → Keeps d s (offerOf d s hold piece .session)
 unfolding offerOf
 offer-keeps d s hold piece h =
     cases (eqb (barred d s hold) 0)
@@ -212,7 +212,7 @@ offer-keeps d s hold piece h =
     goes r more e = counted d s (heldOf d s + length piece) h (more-few (linkOf d s) hold piece (heldOf d s) (r .room) (held-few d s (r .fit)) e)
     goes r (bad n) e =
         let k = counted d s 0 h (omega arith) in
-        keeps-on d s (heldAs d 0 s) (stoppedNow (heldAs d 0 s)) k (halted d (heldAs d 0 s) (k .sound))
+        keeps-on d s (heldAs d 0 s) (stoppedNow (heldAs d 0 s)) k (halted d (heldAs d 0 s) (k .established))
     goes r (whole n) e =
         let k = counted d s 0 h (omega arith) in
-        keeps-on d s (heldAs d 0 s) _ k (judging d (heldAs d 0 s) (heldBytes d s hold ++ piece) n (k .sound) e)
+        keeps-on d s (heldAs d 0 s) _ k (judging d (heldAs d 0 s) (heldBytes d s hold ++ piece) n (k .established) e)

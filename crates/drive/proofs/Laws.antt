@@ -34,7 +34,7 @@ use Rattle.frame.specs.Frame.{bytesAt}
 use Rattle.gate.specs.Offer.{outcome, offerOf}
 use Rattle.drive.specs.declared.Data.{Data}
 use Rattle.drive.specs.Drive.{sizeAt, pieceAt, senderAt, placeNumber, startOf, endOf, idOf, recordBytes, recordOf, Run, ownOf, recorded, called, runOf, driven, Drives}
-use Rattle.drive.specs.Steps.{dataIn, answerBytes}
+use Rattle.drive.specs.Steps.{spanOf, answerBytes}
 use Rattle.drive.proofs.Named.{part-named}
 
 -- ---- a record
@@ -62,7 +62,7 @@ record-laid l {l₁} {l₂} {l₃} {l₄} {l₅} at number place taken size star
     (behind l₅ (at + 14) 4 (at + 18) (bytesOf 4 end) (bytesOf 8 id) refl (omega arith) e₆ e₇)))))
 
 pub answer-laid : (l : List ℕ) {l₁ l₂ l₃ l₄ l₅ l₆ l₇ : List ℕ} (at : ℕ) (a : Answer) {place : ℕ} {w : Data} → place ≡ placeNumber (a .place)
-    → w ≡ dataIn (a .handed)
+    → w ≡ spanOf (a .handed)
     → l₁ ≡ sets l at (bytesOf 1 (a .number))
     → l₂ ≡ sets l₁ (at + 1) (bytesOf 1 place)
     → l₃ ≡ sets l₂ (at + 2) (bytesOf 4 (a .taken))
@@ -99,7 +99,7 @@ module _ (number place taken size : ℕ) where
       ap₂ (λ (s e : List ℕ). bytesOf 1 number ++ bytesOf 1 place ++ bytesOf 4 taken ++ bytesOf 4 size ++ s ++ e ++ bytesOf 8 id) (low-sum start) (low-sum end)
 
   -- what the code hands out has the bytes of what it stands for
-  handed-bytes : (l : Link) (bytes : List ℕ) (h : Handed) → recordBytes number place taken size (dataIn h .start) (dataIn h .end) (dataIn h .id) ≡ recordBytes number place taken size (startOf (handedAs l bytes h)) (endOf (handedAs l bytes h)) (idOf (handedAs l bytes h))
+  handed-bytes : (l : Link) (bytes : List ℕ) (h : Handed) → recordBytes number place taken size (spanOf h .start) (spanOf h .end) (spanOf h .id) ≡ recordBytes number place taken size (startOf (handedAs l bytes h)) (endOf (handedAs l bytes h)) (idOf (handedAs l bytes h))
   handed-bytes l bytes Nothing = refl
   handed-bytes l bytes (Passed h p) =
       low-record (h .size + partNamed p .start) (h .size + partNamed p .end) (h .id)
@@ -108,14 +108,14 @@ module _ (number place taken size : ℕ) where
 answer-bytes : (l : Link) (r : Offered) (piece hold : List ℕ) → answerBytes (r .answer) ≡ recordOf (outcome l r piece hold)
 answer-bytes l r piece hold = handed-bytes _ _ _ _ l (bytesAt (r .answer .place) (r .answer .size) piece hold) (r .answer .handed)
 
-pub data-none : {handed : Handed} → handed ≡ Nothing → record { start = 0; end = 0; id = 0 } ≡ dataIn handed
+pub data-none : {handed : Handed} → handed ≡ Nothing → record { start = 0; end = 0; id = 0 } ≡ spanOf handed
 data-none e = rw e
 
 pub data-passed : {handed : Handed} {h : Header} {p : Packet} {named : Part} {start end : ℕ} → handed ≡ Passed h p
     → named ≡ partNamed p
     → start ≡ (h .size + named .start) % 2 ^ 64
     → end ≡ (h .size + named .end) % 2 ^ 64
-    → record { start = start; end = end; id = h .id } ≡ dataIn handed
+    → record { start = start; end = end; id = h .id } ≡ spanOf handed
 data-passed q n a b = rw (q, a, b, n)
 
 -- ---- a call
@@ -226,7 +226,7 @@ module _ {script guest₀ host₀ out₀ guest host out : List ℕ} {s : Session
         host-length = t .host-length ∙ p .host-length;
         out-length = ap length eo ∙ length-sets out (k * 26) (answerBytes (o .answer)) ∙ p .out-length;
         records = p .records ++ answerBytes (o .answer);
-        records-length = omega (arith, length-append (p .records) (answerBytes (o .answer)), p .records-length, record-length (o .answer .number) (placeNumber (o .answer .place)) (o .answer .taken) (o .answer .size) (dataIn (o .answer .handed) .start) (dataIn (o .answer .handed) .end) (dataIn (o .answer .handed) .id));
+        records-length = omega (arith, length-append (p .records) (answerBytes (o .answer)), p .records-length, record-length (o .answer .number) (placeNumber (o .answer .place)) (o .answer .taken) (o .answer .size) (spanOf (o .answer .handed) .start) (spanOf (o .answer .handed) .end) (spanOf (o .answer .handed) .id));
         laid = behind out₀ 0 (k * 26) (k * 26) (p .records) (answerBytes (o .answer)) (p .records-length) (omega arith) (p .laid) eo;
         to-come = sym y ∙ rw e at (p .to-come);
       }

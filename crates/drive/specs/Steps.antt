@@ -10,9 +10,9 @@ use Rattle.drive.specs.declared.Data.{Data}
 use Rattle.drive.specs.Drive.{placeNumber, recordBytes}
 
 -- the sums wrap, which their four low bytes do not show
-abbrev pub dataIn : Handed → Data
-dataIn Nothing = record { start = 0; end = 0; id = 0 }
-dataIn (Passed h p) = record { start = (h .size + partNamed p .start) % 2 ^ 64; end = (h .size + partNamed p .end) % 2 ^ 64; id = h .id }
+abbrev pub spanOf : Handed → Data
+spanOf Nothing = record { start = 0; end = 0; id = 0 }
+spanOf (Passed h p) = record { start = (h .size + partNamed p .start) % 2 ^ 64; end = (h .size + partNamed p .end) % 2 ^ 64; id = h .id }
 
 abbrev pub answerBytes : Answer → List ℕ
-answerBytes a = recordBytes (a .number) (placeNumber (a .place)) (a .taken) (a .size) (dataIn (a .handed) .start) (dataIn (a .handed) .end) (dataIn (a .handed) .id)
+answerBytes a = recordBytes (a .number) (placeNumber (a .place)) (a .taken) (a .size) (spanOf (a .handed) .start) (spanOf (a .handed) .end) (spanOf (a .handed) .id)

@@ -5,7 +5,7 @@ ghost use Prim.Native.Nat.{_+_, _≤_};
 ghost use lib.ListN.{length};
 ghost use lib.Seq.{sets};
 ghost use Rattle.drive.specs.Drive.{placeNumber, Drives};
-ghost use Rattle.drive.specs.Steps.{dataIn, answerBytes};
+ghost use Rattle.drive.specs.Steps.{spanOf, answerBytes};
 use frame::Place;
 use gate::Answer;
 use gate::offer;
@@ -39,7 +39,7 @@ fn place_number(p: Place) -> u64
 
 // All 0 where nothing is handed out.
 fn data_of(handed: Handed) -> Data
-    ensures { λ r. ⌜ r ≡ dataIn handed ⌝ }
+    ensures { λ r. ⌜ r ≡ spanOf handed ⌝ }
 {
     match handed {
         Handed::Nothing => Data {

@@ -84,7 +84,7 @@ zero-id r n z e = go (eqb n 0) refl
 
 -- ---- what acceptance gives
 
-pub record Sound (l : Link) (p : Content) : Type 0 where
+pub record Encodable (l : Link) (p : Content) : Type 0 where
   pub kind : p .kind < 256 ^ 4
   pub id : p .id < 256 ^ idWidth l (p .kind)
   pub fields : Fit (shared (sharedSet l)) (layout (p .kind)) (p .fields)
@@ -104,7 +104,7 @@ id-fits l p k f w b = go (eqb (p .kind) 0) refl
     go false s = leb-false (256 ^ idWidth l (p .kind)) (p .id) (simp s at w)
 
 -- a number of 0 says that no check holds (`none-holds`), and each that does not hold gives a part of this
-pub accepted : (l : Link) (p : Content) → Accepted l p → Sound l p
+pub accepted : (l : Link) (p : Content) → Accepted l p → Encodable l p
 unfolding packetNumber wireNumber kindNumber layout bad
 accepted l p a = go (find (p .kind) kinds) refl
   where
@@ -112,7 +112,7 @@ accepted l p a = go (find (p .kind) kinds) refl
     zs = both-zero (headerNumber l (p .kind) (bodyLength l p)) (wireNumber l p) (a .number)
 
     -- an unknown kind has 20; a known one its checks
-    go : (o : Option Kind) → find (p .kind) kinds ≡ o → Sound l p
+    go : (o : Option Kind) → find (p .kind) kinds ≡ o → Encodable l p
     go none f = let z : _≡_ {A = ℕ} 20 0 = rw f at (zs .1) in absurd (omega arith)
     go (some k) f =
         let caps : ℕ = sharedSet l in
@@ -160,7 +160,7 @@ record Read (l : Link) (p : Content) : Type 0 where
   counted : length (bodyOf p) ≡ bodyLength l p
 
 -- the header's laws read its three numbers back, and the body is what stands behind as many bytes as the header has
-reads : (l : Link) (p : Content) → Sound l p → Read l p
+reads : (l : Link) (p : Content) → Encodable l p → Read l p
 unfolding encode
 reads l p s =
     let fs : List Field = layout (p .kind) in
@@ -186,7 +186,7 @@ reads l p s =
 pub round-trip : (l : Link) (p : Content) → Accepted l p → RoundTrip l p
 unfolding decode contentAt readNumber
 round-trip l p a =
-    let s : Sound l p = accepted l p a in
+    let s : Encodable l p = accepted l p a in
     let r : Read l p = reads l p s in
     let has = shared (sharedSet l) in
     let fs : List Field = layout (p .kind) in
