@@ -10,6 +10,7 @@ use gate::data_of;
 use gate::offer;
 use header::Hello;
 use header::Side;
+use header::side_of;
 use libc::STDIN_FILENO;
 use libc::STDOUT_FILENO;
 use number::get8;
@@ -106,10 +107,6 @@ fn same_answer(a: Answer, b: Answer) -> bool {
         & (a.size == b.size)
 }
 
-fn side(b: u8) -> Side {
-    if b == 0 { Side::Guest } else { Side::Host }
-}
-
 // The session after `gate::offer`, and whether both ways gave the same.
 struct Twice {
     session: Session,
@@ -183,7 +180,7 @@ fn main() {
         let rest = &script[at..end];
         let size = 5 + get32(rest, 1) as usize;
         let piece = part(rest, 5, size);
-        let from = side(get8(rest, 0));
+        let from = side_of(get8(rest, 0));
         let t = match from {
             Side::Guest => call_twice(
                 &mut kept,

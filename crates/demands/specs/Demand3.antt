@@ -284,7 +284,7 @@ puts from s p out e =
 
 -- "Take any session that isn't stopped, both hellos passed with any capability sets that document 01 admits, .. and one direction at a
 -- packet's start"; "one that 43 doesn't refuse"; "The direction starts with nothing held and a buffer that 41 allows". Of the other
--- direction's buffer and held bytes nothing is asked.
+-- direction's buffer nothing is asked, and of its held bytes only that 43 allows their count.
 pub record Starts (from : Side) (x : State) : Type 0 where
   pub running : x .session .stopped ≡ false
   pub guest : passed (x .session .guest) ≡ true
