@@ -158,8 +158,8 @@ unfoldable pub numbers : Session → List Sent → List ℕ
 numbers s [] = []
 numbers s (x ∷ xs) = told s x .number ∷ numbers (told s x .session) xs
 
-abbrev greetings : ℕ → List Sent
-greetings bits = hello Guest bits ∷ hello Host 255 ∷ []
+abbrev hellos : ℕ → List Sent
+hellos bits = hello Guest bits ∷ hello Host 255 ∷ []
 
 abbrev introduction : List Sent
 introduction = plainTable ∷ interfaceTable ∷ connect ∷ []
@@ -172,15 +172,15 @@ pub record Run : Type 0 where
 
 -- from a device that is there, with every bit shared
 abbrev then-sends : List Sent → List ℕ → Run
-then-sends xs ns = record { before = greetings 255 ++ introduction; sends = xs; gets = ns }
+then-sends xs ns = record { before = hellos 255 ++ introduction; sends = xs; gets = ns }
 
 -- from no device
 abbrev without : ℕ → List Sent → List ℕ → Run
-without bits xs ns = record { before = greetings bits; sends = xs; gets = ns }
+without bits xs ns = record { before = hellos bits; sends = xs; gets = ns }
 
 -- the same with requests already live
 abbrev with-live : ℕ → List Sent → List ℕ → Run
-with-live n xs ns = record { before = greetings 255 ++ introduction ++ asks n; sends = xs; gets = ns }
+with-live n xs ns = record { before = hellos 255 ++ introduction ++ asks n; sends = xs; gets = ns }
 
 abbrev answersOf : List Run → List (List ℕ)
 answersOf [] = []

@@ -36,7 +36,7 @@ use Rattle.device.specs.declared.Scope.{Scope}
 use Rattle.device.specs.declared.Scope.the-variants.{Nowhere, Everywhere, OfInterface}
 use Rattle.device.specs.declared.Introduction.{Introduction}
 use Rattle.device.specs.declared.Introduction.the-variants.{Nothing, One, Two}
-use Rattle.device.specs.Device.{control, iso, bulk, interrupt, invalid, closedRow, startRows, startDevice, replacedBy, replaced, withStream, streamIn, streamTo, shut, closed}
+use Rattle.device.specs.Device.{control, iso, bulk, interrupt, invalid, closedRow, startRows, startDevice, replacedBy, replaced, withStream, streamIn, streamTo, closedBy, closed}
 use Rattle.device.specs.Laws.{start-length, stream-length}
 use Rattle.requests.specs.declared.Place.{Place}
 use Rattle.requests.specs.declared.Requests.{Requests}
@@ -148,9 +148,9 @@ module _ (d : Rows) (r : ℕ) (h : r < length (d .rows)) where
   abbrev row : RowState
   row = getD (d .rows) r (closedRow 0)
 
-  closed-at : (c : Scope) → getD (closed d c .rows) r (closedRow 0) ≡ shut c r row
+  closed-at : (c : Scope) → getD (closed d c .rows) r (closedRow 0) ≡ closedBy c r row
   unfolding closed
-  closed-at c = each-at (shut c) (d .rows) 0 r (closedRow 0) h ∙ ap (λ (i : ℕ). shut c i row) (zero-add r)
+  closed-at c = each-at (closedBy c) (d .rows) 0 r (closedRow 0) h ∙ ap (λ (i : ℕ). closedBy c i row) (zero-add r)
 
   replaced-at : (new : Rows) → getD (replaced new d .rows) r (closedRow 0) ≡ replacedBy (getD (new .rows) r (closedRow 0)) row
   unfolding replaced
@@ -245,14 +245,14 @@ module _ (s : Session) (p : Content) where
     abbrev new : RowState
     new = getD (closed d (scopeOf e match) .rows) r (closedRow 0)
 
-    new-is : new ≡ shut (scopeTo (answeredKind t p)) r old
-    new-is = closed-at d r h (scopeOf e match) ∙ ap (λ (c : Scope). shut c r old) scope-is
+    new-is : new ≡ closedBy (scopeTo (answeredKind t p)) r old
+    new-is = closed-at d r h (scopeOf e match) ∙ ap (λ (c : Scope). closedBy c r old) scope-is
 
     -- after one that answers no set alt
     configured : answersKind (p .kind) 9 ≡ false → new ≡ withStream (cond (eqb (e .status) 0 && eqb (answeredKind t p) 6) false (old .streaming)) old
     configured n = new-is ∙ rw (other-kind t p 9 refl n) (go (eqb (e .status) 0) (eqb (answeredKind t p) 6))
       where
-        go : (a b : Bool) → shut (cond a (cond b Everywhere Nowhere) Nowhere) r old ≡ withStream (cond (a && b) false (old .streaming)) old
+        go : (a b : Bool) → closedBy (cond a (cond b Everywhere Nowhere) Nowhere) r old ≡ withStream (cond (a && b) false (old .streaming)) old
         go true true = refl
         go true false = refl
         go false b = refl
@@ -266,7 +266,7 @@ module _ (s : Session) (p : Content) where
         either true = refl
         either false = refl
 
-        go : (a b : Bool) → shut (cond a (cond b (OfInterface (e .request .target)) Nowhere) Nowhere) r old
+        go : (a b : Bool) → closedBy (cond a (cond b (OfInterface (e .request .target)) Nowhere) Nowhere) r old
             ≡ withStream (cond (a && b && not (eqb r 0 || eqb r 16) && eqb (old .interface) (e .request .target)) false (old .streaming)) old
         go true true = either (not (eqb r 0 || eqb r 16) && eqb (old .interface) (e .request .target))
         go true false = refl

@@ -224,8 +224,8 @@ module _ (x : Both) (d : Side) (piece : List ℕ) (h : Left x) where
 
   -- no direction waits in a call that goes on
   not-waiting : (d : Side) → Ready d s (x .hold d) → passed (helloBy d s) ≡ true → passed (helloBy (opposite d) s) ≡ false → ⊥
-  not-waiting Guest r p q = let w : isWaiting (linkOf Guest s) ≡ true = rw (p, q) refl in true≢false (sym w ∙ r .speaking)
-  not-waiting Host r p q = let w : isWaiting (linkOf Host s) ≡ true = rw (p, q) refl in true≢false (sym w ∙ r .speaking)
+  not-waiting Guest r p q = let w : isWaiting (linkOf Guest s) ≡ true = rw (p, q) refl in true≢false (sym w ∙ r .not-waiting)
+  not-waiting Host r p q = let w : isWaiting (linkOf Host s) ≡ true = rw (p, q) refl in true≢false (sym w ∙ r .not-waiting)
 
   -- a piece that is kept
   kept-next : Ready d s (x .hold d) → cutAt (linkOf d s) (heldBy x d ++ piece) ≡ more → Next d s (heldAs d (heldOf d s + length piece) s) (sets (x .hold d) (heldOf d s) piece)

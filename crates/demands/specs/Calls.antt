@@ -44,7 +44,7 @@ use Rattle.gate.specs.Write.{shut, writeBy}
 use Rattle.gate.specs.Laws.{is-more, lies, Fit, fit-is, is-fit, Ready, ready, held-few, whole-here, header-here}
 use Rattle.demands.specs.Numbers.{header-numbers, wire-numbers, session-numbers, barred-numbers}
 use Rattle.demands.specs.Kept.{whole-number, verdict-numbers}
-use Rattle.demands.specs.Cuts.{ends, barred-silent, verdict-ends}
+use Rattle.demands.specs.Cuts.{ends, barred-ends-none, verdict-ends}
 use Rattle.demands.specs.Demand2.{packetAt, number-in-gate}
 use Rattle.demands.specs.Demand3.{offer-open}
 
@@ -85,7 +85,7 @@ pub record Goes (from : Side) (s : Session) (hold : List ℕ) : Type 0 where
   pub fit : Fit s
   pub begun : Unfinished from s hold
   pub running : s .stopped ≡ false
-  pub speaking : ownPassed from s ≡ true → otherPassed from s ≡ true
+  pub hello-answered : ownPassed from s ≡ true → otherPassed from s ≡ true
 
 -- 10, 11 and 12
 abbrev pub ofHeader : ℕ → Bool
@@ -119,7 +119,7 @@ not-waiting from s h = waiting-is from s ∙ go (ownPassed from s) refl (otherPa
     go true ea false eb = absurd (true≢false (sym (h ea) ∙ eb))
 
 goes-ready : (from : Side) (s : Session) (hold : List ℕ) → Goes from s hold → Ready from s hold
-goes-ready from s hold g = record { room = g .room; fit = is-fit s (g .fit); begun = g .begun; running = g .running; speaking = not-waiting from s (g .speaking) }
+goes-ready from s hold g = record { room = g .room; fit = is-fit s (g .fit); begun = g .begun; running = g .running; not-waiting = not-waiting from s (g .hello-answered) }
 
 -- a header that is refused has one of the numbers 10, 11 and 12
 header-number : (l : Link) (b : List ℕ) (n : ℕ) → cutAt l b ≡ bad n → ofHeader n ≡ true
@@ -181,7 +181,7 @@ shuts from s p room =
       unfit = λ z. rw (not-fit z) refl;
       stopped = λ f t. rw (is-fit s f, t) refl;
       waiting = λ f t h a b. rw (is-fit s f, t, ne-eqb (p .kind) 0 h, waiting-is from s, a, b) refl;
-      going = λ f t a. rw (is-fit s f, t, speaks a) (next-next (headerNumber (linkOf from s) (p .kind) (bodyLength (linkOf from s) p)) (wireNumber (linkOf from s) p) (cond (ltb room (length (encode (linkOf from s) p))) 40 0));
+      going = λ f t a. rw (is-fit s f, t, not-shut a) (next-next (headerNumber (linkOf from s) (p .kind) (bodyLength (linkOf from s) p)) (wireNumber (linkOf from s) p) (cond (ltb room (length (encode (linkOf from s) p))) 40 0));
     }
   where
     not-fit : (Fit s → ⊥) → unfit s ≡ true
@@ -195,8 +195,8 @@ shuts from s p room =
     no true = refl
     no false = refl
 
-    speaks : ((p .kind ≡ 0 → ⊥) → ownPassed from s ≡ true → otherPassed from s ≡ true) → (isWaiting (linkOf from s) && not (eqb (p .kind) 0)) ≡ false
-    speaks g = cases (eqb (p .kind) 0) (λ t. rw t (no (isWaiting (linkOf from s)))) (λ t. rw (t, not-waiting from s (g (λ z. true≢false (sym (ap (λ (m : ℕ). eqb m 0) z) ∙ t)))) refl)
+    not-shut : ((p .kind ≡ 0 → ⊥) → ownPassed from s ≡ true → otherPassed from s ≡ true) → (isWaiting (linkOf from s) && not (eqb (p .kind) 0)) ≡ false
+    not-shut g = cases (eqb (p .kind) 0) (λ t. rw t (no (isWaiting (linkOf from s)))) (λ t. rw (t, not-waiting from s (g (λ z. true≢false (sym (ap (λ (m : ℕ). eqb m 0) z) ∙ t)))) refl)
 
 -- ---- what a call leaves
 
@@ -282,7 +282,7 @@ unfolding offerOf
 leaves from s hold piece =
     cases (eqb (barred from s hold) 0)
     (λ t. rw t (goes (ready from s hold (eqb-true _ _ t)) (cutAt (linkOf from s) (heldBytes from s hold ++ piece)) refl))
-    (λ t. rw t (shut (barred-silent from s hold (λ z. true≢false (sym (ap (λ (m : ℕ). eqb m 0) z) ∙ t)))))
+    (λ t. rw t (shut (barred-ends-none from s hold (λ z. true≢false (sym (ap (λ (m : ℕ). eqb m 0) z) ∙ t)))))
   where
     shut : ends (barred from s hold) ≡ false → Leaves from s hold piece (Rattle.gate.specs.Offer.unmoved s hold (barred from s hold))
     shut z =

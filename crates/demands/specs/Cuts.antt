@@ -215,21 +215,21 @@ abbrev heldAfter : Both → Side → Outcome → Side → List ℕ
 heldAfter x d o e = heldBytes e (o .session) (of-side d (o .hold) (x .hold) e)
 
 -- a call that ends no packet: what it took stands behind what was held
-record Quiet (x : Both) (d : Side) (piece : List ℕ) (o : Outcome) : Type 0 where
-  silent : ends (o .number) ≡ false
+record EndsNone (x : Both) (d : Side) (piece : List ℕ) (o : Outcome) : Type 0 where
+  ends-none : ends (o .number) ≡ false
   same : bare (o .session) ≡ bare (x .session)
   held : (e : Side) → heldAfter x d o e ≡ heldBy x e ++ of-side d (take (o .taken) piece) (λ i. []) e
 
 -- a call that ends one: its bytes are those held and those taken, and whatever follows them, they give what `taking` gives
 record Ending (x : Both) (d : Side) (piece : List ℕ) (o : Outcome) : Type 0 where
-  heard : ends (o .number) ≡ true
+  ends-one : ends (o .number) ≡ true
   gives : (r : List ℕ) → taking d (bare (x .session)) (heldBy x d ++ take (o .taken) piece ++ r)
       ≡ record { ended = record { from = d; number = o .number; handed = o .handed } ∷ []; session = bare (o .session); size = length (heldBy x d ++ take (o .taken) piece) }
   held : (e : Side) → heldAfter x d o e ≡ of-side d [] (heldBy x) e
 
 -- a call that takes nothing
-unmoved-quiet : (x : Both) (d : Side) (piece : List ℕ) (n : ℕ) → ends n ≡ false → Quiet x d piece (unmoved (x .session) (x .hold d) n)
-unmoved-quiet x d piece n z = record { silent = z; same = refl; held = same d }
+unmoved-ends-none : (x : Both) (d : Side) (piece : List ℕ) (n : ℕ) → ends n ≡ false → EndsNone x d piece (unmoved (x .session) (x .hold d) n)
+unmoved-ends-none x d piece n z = record { ends-none = z; same = refl; held = same d }
   where
     same : (d e : Side) → heldAfter x d (unmoved (x .session) (x .hold d) n) e ≡ heldBy x e ++ of-side d [] (λ i. []) e
     same Guest Guest = sym (append-nil (heldBy x Guest))
@@ -238,8 +238,8 @@ unmoved-quiet x d piece n z = record { silent = z; same = refl; held = same d }
     same Host Host = sym (append-nil (heldBy x Host))
 
 -- a piece that is kept
-kept-quiet : (x : Both) (d : Side) (piece : List ℕ) → heldOf d (x .session) + length piece ≤ length (x .hold d) → Quiet x d piece (kept d (x .session) (x .hold d) piece)
-kept-quiet x d piece h = record { silent = refl; same = bare-held d (heldOf d (x .session) + length piece) (x .session); held = behind-held d h }
+kept-ends-none : (x : Both) (d : Side) (piece : List ℕ) → heldOf d (x .session) + length piece ≤ length (x .hold d) → EndsNone x d piece (kept d (x .session) (x .hold d) piece)
+kept-ends-none x d piece h = record { ends-none = refl; same = bare-held d (heldOf d (x .session) + length piece) (x .session); held = behind-held d h }
   where
     behind-held : (d : Side) → heldOf d (x .session) + length piece ≤ length (x .hold d) → (e : Side)
         → heldAfter x d (kept d (x .session) (x .hold d) piece) e ≡ heldBy x e ++ of-side d (take (length piece) piece) (λ i. []) e
@@ -286,7 +286,7 @@ module _ (x : Both) (d : Side) (piece : List ℕ) (n : ℕ) where
       let i : IsBad usbredir l all n = bad-is usbredir l all n e in
       let c : length (take (headSize l all) all) ≡ headSize l all = length-take-le (headSize l all) all (i .there) in
       record {
-        heard = subst (λ (m : ℕ). ends m ≡ true) (i .number) (header-numbers (λ m. ends m ≡ true) (refl, (refl, (refl, (refl, tt)))) l (kindOf all) (lengthOf all));
+        ends-one = subst (λ (m : ℕ). ends m ≡ true) (i .number) (header-numbers (λ m. ends m ≡ true) (refl, (refl, (refl, (refl, tt)))) l (kindOf all) (lengthOf all));
         gives = λ r.
             let a = bad-again l all r n e in
             rw (← f)
@@ -307,7 +307,7 @@ module _ (x : Both) (d : Side) (piece : List ℕ) (n : ℕ) where
       let q : verdictOf (bare s) d t ≡ record { session = bare (v .session); number = v .number; handed = v .handed } =
       ap (λ (u : Session). verdictOf u d t) (sym (bare-held d 0 s)) ∙ verdict-bare (heldAs d 0 s) d t in
       record {
-        heard = ended-number;
+        ends-one = ended-number;
         gives = λ r.
             rw (← f)
             (ap (takenAs d (bare s) (t ++ r)) (whole-again l all r n e)
@@ -323,7 +323,7 @@ module _ (x : Both) (d : Side) (piece : List ℕ) (n : ℕ) where
 
 -- what a call shows of itself, and that the counts stay small
 record Shows (x : Both) (d : Side) (piece : List ℕ) (o : Outcome) : Type 0 where
-  kind : Quiet x d piece o ⊎ Ending x d piece o
+  kind : EndsNone x d piece o ⊎ Ending x d piece o
   few : (e : Side) → heldOf e (o .session) ≤ 32783
 
 few-as : (d : Side) (n : ℕ) (s : Session) → n ≤ 32783 → ((e : Side) → heldOf e s ≤ 32783) → (e : Side) → heldOf e (heldAs d n s) ≤ 32783
@@ -336,20 +336,20 @@ few-same : (s t : Session) → t .held ≡ s .held → ((e : Side) → heldOf e 
 few-same s t q f Guest = subst (λ (h : Held). h .guest ≤ 32783) (sym q) (f Guest)
 few-same s t q f Host = subst (λ (h : Held). h .host ≤ 32783) (sym q) (f Host)
 
-pub barred-silent : (d : Side) (s : Session) (hold : List ℕ) → (barred d s hold ≡ 0 → ⊥) → ends (barred d s hold) ≡ false
-barred-silent = barred-numbers (λ m. (m ≡ 0 → ⊥) → ends m ≡ false) ((λ z. absurd (z refl)), ((λ z. refl), ((λ z. refl), ((λ z. refl), ((λ z. refl), tt)))))
+pub barred-ends-none : (d : Side) (s : Session) (hold : List ℕ) → (barred d s hold ≡ 0 → ⊥) → ends (barred d s hold) ≡ false
+barred-ends-none = barred-numbers (λ m. (m ≡ 0 → ⊥) → ends m ≡ false) ((λ z. absurd (z refl)), ((λ z. refl), ((λ z. refl), ((λ z. refl), ((λ z. refl), tt)))))
 
 shows : (x : Both) (d : Side) (piece : List ℕ) → Fits x → Shows x d piece (offerOf d (x .session) (x .hold d) piece)
 unfolding offerOf
 shows x d piece f =
     cases (eqb (barred d (x .session) (x .hold d)) 0)
     (λ t. rw t (goes (ready d (x .session) (x .hold d) (eqb-true _ _ t)) (cutAt (linkOf d (x .session)) (heldBy x d ++ piece)) refl))
-    (λ t. rw t (record { kind = inl (unmoved-quiet x d piece (barred d (x .session) (x .hold d)) (barred-silent d (x .session) (x .hold d) (λ z. true≢false (sym (ap (λ (m : ℕ). eqb m 0) z) ∙ t)))); few = f .few }))
+    (λ t. rw t (record { kind = inl (unmoved-ends-none x d piece (barred d (x .session) (x .hold d)) (barred-ends-none d (x .session) (x .hold d) (λ z. true≢false (sym (ap (λ (m : ℕ). eqb m 0) z) ∙ t)))); few = f .few }))
   where
     goes : Ready d (x .session) (x .hold d) → (c : Cut) → cutAt (linkOf d (x .session)) (heldBy x d ++ piece) ≡ c → Shows x d piece (byCut d (x .session) (x .hold d) piece c)
     goes r more e =
         let h = more-few (linkOf d (x .session)) (x .hold d) piece (heldOf d (x .session)) (r .room) (f .few d) e in
-        record { kind = inl (kept-quiet x d piece (omega (arith, r .room))); few = few-as d (heldOf d (x .session) + length piece) (x .session) h (f .few) }
+        record { kind = inl (kept-ends-none x d piece (omega (arith, r .room))); few = few-as d (heldOf d (x .session) + length piece) (x .session) h (f .few) }
     goes r (bad n) e =
         record {
           kind = inr (header-ending x d piece n (header-here (linkOf d (x .session)) (x .hold d) piece (heldOf d (x .session)) (r .room) (f .few d) (r .begun) n e) e);
@@ -376,7 +376,7 @@ unfolding offerOf
 held-none d s hold piece =
     cases (eqb (barred d s hold) 0)
     (λ t. rw t (goes (cutAt (linkOf d s) (heldBytes d s hold ++ piece))))
-    (λ t. rw t (λ h. absurd (true≢false (sym h ∙ barred-silent d s hold (λ z. true≢false (sym (ap (λ (m : ℕ). eqb m 0) z) ∙ t))))))
+    (λ t. rw t (λ h. absurd (true≢false (sym h ∙ barred-ends-none d s hold (λ z. true≢false (sym (ap (λ (m : ℕ). eqb m 0) z) ∙ t))))))
   where
     none : (d : Side) (t : Session) → t .held ≡ heldAs d 0 s .held → heldOf d t ≡ 0
     none Guest t q = λ i. q i .guest
@@ -396,7 +396,7 @@ streams x cs d = heldBy x d ++ bytesTaken d x cs
 abbrev pub left : Both → Played
 left x = record { ended = []; session = bare (x .session); rest = heldBy x }
 
--- what a quiet call adds to the answers, and what an ending one does
+-- what a call that ends no packet adds to the answers, and what one that ends one does
 none-ended : (b : Bool) (e : Ended) (es : List Ended) → b ≡ false → cond b (e ∷ []) [] ++ es ≡ es
 none-ended true e es z = absurd (true≢false z)
 none-ended false e es z = refl
@@ -449,10 +449,10 @@ module _ (x : Both) (c : Call) (cs : List Call) (b r : Side → List ℕ) where
   abbrev before : Side → List ℕ
   before d = of-side (c .from) T (λ i. []) d ++ b d
 
-  quiet-plays : Quiet x (c .from) (c .piece) o → Plays y cs b r → Plays x (c ∷ cs) before r
+  none-plays : EndsNone x (c .from) (c .piece) o → Plays y cs b r → Plays x (c ∷ cs) before r
   unfolding endings final
-  quiet-plays q ih =
-      let z = none-ended (ends (o .number)) e (endings y cs) (q .silent) in
+  none-plays q ih =
+      let z = none-ended (ends (o .number)) e (endings y cs) (q .ends-none) in
       let a : Side → List ℕ = joined (c .from) (heldBy x) T b in
       let p : (d : Side) → a d ≡ heldBy y d ++ b d = λ d. sym (append-assoc (heldBy x d) (of-side (c .from) T (λ i. []) d) (b d)) ∙ ap (λ (h : List ℕ). h ++ b d) (sym (q .held d)) in
       let w = sym (q .same) in
@@ -465,7 +465,7 @@ module _ (x : Both) (c : Call) (cs : List Call) (b r : Side → List ℕ) where
   unfolding play endings final
   ending-plays q ih =
       let d : Side = c .from in
-      let z = one-ended (ends (o .number)) e (endings y cs) (q .heard) in
+      let z = one-ended (ends (o .number)) e (endings y cs) (q .ends-one) in
       let a : Side → List ℕ = joined d (heldBy x) T b in
       let k : taking d (bare (x .session)) (a d) ≡ record { ended = e ∷ []; session = bare (y .session); size = length (heldBy x d ++ T) } =
       ap (taking d (bare (x .session))) (own-joined d (heldBy x) T b) ∙ q .gives (b d) in
@@ -476,8 +476,8 @@ module _ (x : Both) (c : Call) (cs : List Call) (b r : Side → List ℕ) where
       ∙ ap (behind (e ∷ [])) ih
       ∙ (λ i. behind (sym z i) (leftBy (final y cs) r))
 
-  call-plays : Quiet x (c .from) (c .piece) o ⊎ Ending x (c .from) (c .piece) o → Plays y cs b r → Plays x (c ∷ cs) before r
-  call-plays (inl q) = quiet-plays q
+  call-plays : EndsNone x (c .from) (c .piece) o ⊎ Ending x (c .from) (c .piece) o → Plays y cs b r → Plays x (c ∷ cs) before r
+  call-plays (inl q) = none-plays q
   call-plays (inr q) = ending-plays q
 
 -- whatever bytes stand behind those taken

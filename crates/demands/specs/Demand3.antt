@@ -140,8 +140,8 @@ opposite-twice Guest = refl
 opposite-twice Host = refl
 
 -- with both hellos passed no direction waits
-speaking : (from : Side) (s : Session) → Established s → isWaiting (linkOf from s) ≡ false
-speaking from s h = rw (h .guest, h .host) (neither (passed (own (linkOf from s))))
+not-waiting : (from : Side) (s : Session) → Established s → isWaiting (linkOf from s) ≡ false
+not-waiting from s h = rw (h .guest, h .host) (neither (passed (own (linkOf from s))))
   where
     neither : (b : Bool) → (b && false) ≡ false
     neither true = refl
@@ -155,7 +155,7 @@ is-ready from x o =
       fit = is-fit (x .session) (o .sound .session .fit);
       begun = o .begun;
       running = o .running;
-      speaking = speaking from (x .session) (o .sound .session);
+      not-waiting = not-waiting from (x .session) (o .sound .session);
     }
 
 -- the session after a call, and the link
@@ -300,7 +300,7 @@ module _ (from : Side) (x : State) (h : Starts from x) where
   -- no writer call from there is shut by 43, 3 or 2
   going : (hello : Bool) → shut from (x .session) hello ≡ 0
   unfolding shut
-  going hello = rw (h .fit, h .running, speaking from (x .session) established) refl
+  going hello = rw (h .fit, h .running, not-waiting from (x .session) established) refl
 
   -- and 11 cannot be
   own-passed : passed (own (linkOf from (x .session))) ≡ false → ⊥

@@ -96,11 +96,11 @@ touches Nowhere i r = false
 touches Everywhere i r = true
 touches (OfInterface n) i r = not (eqb i 0 || eqb i 16) && eqb (r .interface) n
 
-abbrev pub shut : Scope → ℕ → RowState → RowState
-shut s i r = cond (touches s i r) (withStream false r) r
+abbrev pub closedBy : Scope → ℕ → RowState → RowState
+closedBy s i r = cond (touches s i r) (withStream false r) r
 
 unfoldable pub closed : Rows → Scope → Rows
-closed d s = record { rows = eachAt (shut s) 0 (d .rows) }
+closed d s = record { rows = eachAt (closedBy s) 0 (d .rows) }
 
 -- the row of an endpoint is one of them; a byte that is no address has no row of an interface
 abbrev pub touchedIn : Rows → Scope → RowOf → Bool

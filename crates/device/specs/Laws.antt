@@ -21,7 +21,7 @@ use Rattle.device.specs.declared.RowState.{RowState}
 use Rattle.device.specs.declared.Rows.{Rows}
 use Rattle.device.specs.declared.Scope.{Scope}
 use Rattle.device.specs.declared.Scope.the-variants.{Nowhere}
-use Rattle.device.specs.Device.{control, closedRow, startRows, replaced, withStream, streamIn, streamTo, touches, shut, closed, controlRows}
+use Rattle.device.specs.Device.{control, closedRow, startRows, replaced, withStream, streamIn, streamTo, touches, closedBy, closed, controlRows}
 
 -- rows of the same types are alike in their control rows
 same-control : (a b : Rows) → getD (a .rows) 0 (closedRow 0) .kind ≡ getD (b .rows) 0 (closedRow 0) .kind → getD (a .rows) 16 (closedRow 0) .kind ≡ getD (b .rows) 16 (closedRow 0) .kind → controlRows a ≡ controlRows b
@@ -35,8 +35,8 @@ start-control = refl
 
 -- ---- closing the streams of a scope
 
-shut-kind : (s : Scope) (i : ℕ) (r : RowState) → shut s i r .kind ≡ r .kind
-shut-kind s i r = either (touches s i r)
+closed-by-kind : (s : Scope) (i : ℕ) (r : RowState) → closedBy s i r .kind ≡ r .kind
+closed-by-kind s i r = either (touches s i r)
   where
     either : (b : Bool) → cond b (withStream false r) r .kind ≡ r .kind
     either true = refl
@@ -44,11 +44,11 @@ shut-kind s i r = either (touches s i r)
 
 pub closed-length : (d : Rows) (s : Scope) → length (closed d s .rows) ≡ length (d .rows)
 unfolding closed
-closed-length d s = each-length (shut s) (d .rows) 0
+closed-length d s = each-length (closedBy s) (d .rows) 0
 
 pub closed-kind : (d : Rows) (s : Scope) (k : ℕ) → getD (closed d s .rows) k (closedRow 0) .kind ≡ getD (d .rows) k (closedRow 0) .kind
 unfolding closed
-closed-kind d s k = each-keeps (shut s) (λ (r : RowState). r .kind) (shut-kind s) (d .rows) 0 k (closedRow 0)
+closed-kind d s k = each-keeps (closedBy s) (λ (r : RowState). r .kind) (closed-by-kind s) (d .rows) 0 k (closedRow 0)
 
 pub closed-control : (d : Rows) (s : Scope) → controlRows (closed d s) ≡ controlRows d
 closed-control d s = same-control (closed d s) d (closed-kind d s 0) (closed-kind d s 16)
@@ -101,7 +101,7 @@ replaced-control new d c = let p = and-parts _ _ c in and-whole _ _ (replaced-ro
 
 pub closed-nowhere : (d : Rows) → closed d Nowhere ≡ d
 unfolding closed
-closed-nowhere d = λ j. record { rows = each-same (shut Nowhere) (λ i r. refl) (d .rows) 0 j }
+closed-nowhere d = λ j. record { rows = each-same (closedBy Nowhere) (λ i r. refl) (d .rows) 0 j }
 
 -- ---- the number of rows at the start
 

@@ -4,7 +4,7 @@ ghost use mathlib.Core.Path.{_≡_};
 ghost use mathlib.Core.Bool.{_&&_, not};
 ghost use lib.Dec.{eqb};
 ghost use Rattle.number.specs.Bits.{hasBit};
-ghost use Rattle.device.specs.Device.{closedRow, startRows, stateAt, mistyped, maskMistyped, replacedBy, replaced, withStream, streamTo, touches, shut, closed, touched, controlRows, startDevice};
+ghost use Rattle.device.specs.Device.{closedRow, startRows, stateAt, mistyped, maskMistyped, replacedBy, replaced, withStream, streamTo, touches, closedBy, closed, touched, controlRows, startDevice};
 use endpoint::Endpoint;
 use endpoint::Row;
 use endpoint::RowOf;
@@ -178,8 +178,8 @@ fn is_touched(s: Scope, i: usize, r: RowState) -> bool
     }
 }
 
-fn shut_row(s: Scope, i: usize, r: RowState) -> RowState
-    ensures { λ t. ⌜ t ≡ shut s i r ⌝ }
+fn close_row(s: Scope, i: usize, r: RowState) -> RowState
+    ensures { λ t. ⌜ t ≡ closedBy s i r ⌝ }
 {
     if is_touched(s, i, r) {
         with_stream(r, false)
@@ -196,7 +196,7 @@ pub fn close(rows: Rows, s: Scope) -> Rows
     let mut i: usize = 0;
     while i < 32 {
         let old = out.rows[i];
-        out.rows[i] = shut_row(s, i, old);
+        out.rows[i] = close_row(s, i, old);
         i += 1;
     }
     out

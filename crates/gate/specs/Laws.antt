@@ -99,7 +99,7 @@ pub record Ready (from : Side) (s : Session) (hold : List ℕ) : Type 0 where
   pub fit : unfit s ≡ false
   pub begun : cutAt (linkOf from s) (heldBytes from s hold) ≡ more
   pub running : s .stopped ≡ false
-  pub speaking : isWaiting (linkOf from s) ≡ false
+  pub not-waiting : isWaiting (linkOf from s) ≡ false
 
 -- bytes that are neither a packet nor a refused header
 pub is-more : (c : Cut) → not (isMore c) ≡ false → c ≡ more
@@ -118,12 +118,12 @@ ready from s hold e = go (ltb (length hold) 32784) refl (unfit s || heldWhole fr
     go false ea false eb false ec true ed = let z : _≡_ {A = ℕ} 2 0 = rw (ea, eb, ec, ed) at e in absurd (omega arith)
     go false ea false eb false ec false ed =
         let f = or-parts (unfit s) (heldWhole from s hold) eb in
-        record { room = ltb-false _ _ ea; fit = f .0; begun = is-more (cutAt (linkOf from s) (heldBytes from s hold)) (f .1); running = ec; speaking = ed }
+        record { room = ltb-false _ _ ea; fit = f .0; begun = is-more (cutAt (linkOf from s) (heldBytes from s hold)) (f .1); running = ec; not-waiting = ed }
 
 -- and the other way round
 pub not-barred : (from : Side) (s : Session) (hold : List ℕ) → Ready from s hold → barred from s hold ≡ 0
 unfolding barred
-not-barred from s hold r = simp (le-ltb (length hold) 32784 (r .room), r .fit, r .begun, r .running, r .speaking)
+not-barred from s hold r = simp (le-ltb (length hold) 32784 (r .room), r .fit, r .begun, r .running, r .not-waiting)
 
 -- ---- a session that 43 does not refuse for itself
 

@@ -1,4 +1,4 @@
--- What one call of the code adds to a report (`call-silent`, `call-told`), and what the calls so far leave to those still to come.
+-- What one call of the code adds to a report (`call-no-line`, `call-told`), and what the calls so far leave to those still to come.
 -- By the gate's contract the code's answer is `offerOf`'s, and what it adds computes once it is known whether the answer has a line. The loop
 -- keeps `Reporting`: the calls still to come, over the lines so far, give what all of them give. Each call uses up some of what is left
 -- (`used-more`), so that no more calls are needed than there are bytes. A size that stays at the largest number points behind the output, where
@@ -39,9 +39,9 @@ module _ (t : Totals) (n : ℕ) {x : ℕ} where
   count-refused z e = rw (ne-eqb n 0 z, e)
 
 module _ (from : Side) (r : Reported) (hold rest out : List ℕ) (a : Offered) {after : List ℕ} (e : outcome (linkOf from (r .session)) a rest after ≡ offerOf from (r .session) hold rest) where
-  pub call-silent : r .size ≤ largest → givesLine (a .answer .number) ≡ false
+  pub call-no-line : r .size ≤ largest → givesLine (a .answer .number) ≡ false
       → Calls from r rest out (offerOf from (r .session) hold rest) (record { reported = record { session = a .session; totals = r .totals; size = r .size }; used = length rest }) after out
-  call-silent h g = rw (← e) (record { session = refl; totals = rw g refl; size = rw g (omega arith); used = rw g refl; hold = refl; output = rw g refl })
+  call-no-line h g = rw (← e) (record { session = refl; totals = rw g refl; size = rw g (omega arith); used = rw g refl; hold = refl; output = rw g refl })
 
   pub call-told : {l : Link} {bytes out-after : List ℕ} {h : Header} {t : Totals} {n size : ℕ} → givesLine (a .answer .number) ≡ true
       → l ≡ linkOf from (r .session)

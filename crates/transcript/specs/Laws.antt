@@ -33,17 +33,17 @@ pub record Takes (o : Outcome) (piece : List ℕ) : Type 0 where
   pub some : givesLine (o .number) ≡ true → 0 < o .taken
 
 -- 41, 43, 3 and 2 have no line
-silent : (a b c d : Bool) → eqb (cond a 41 (cond b 43 (cond c 3 (cond d 2 0)))) 0 ≡ false → givesLine (cond a 41 (cond b 43 (cond c 3 (cond d 2 0)))) ≡ false
-silent true b c d e = refl
-silent false true c d e = refl
-silent false false true d e = refl
-silent false false false true e = refl
-silent false false false false e = absurd (true≢false e)
+no-line : (a b c d : Bool) → eqb (cond a 41 (cond b 43 (cond c 3 (cond d 2 0)))) 0 ≡ false → givesLine (cond a 41 (cond b 43 (cond c 3 (cond d 2 0)))) ≡ false
+no-line true b c d e = refl
+no-line false true c d e = refl
+no-line false false true d e = refl
+no-line false false false true e = refl
+no-line false false false false e = absurd (true≢false e)
 
 module _ (from : Side) (s : Session) (hold piece : List ℕ) where
-  barred-silent : eqb (barred from s hold) 0 ≡ false → givesLine (barred from s hold) ≡ false
+  barred-no-line : eqb (barred from s hold) 0 ≡ false → givesLine (barred from s hold) ≡ false
   unfolding barred
-  barred-silent e = silent (ltb (length hold) 32784) (unfit s || heldWhole from s hold) (s .stopped) (isWaiting (linkOf from s)) e
+  barred-no-line e = no-line (ltb (length hold) 32784) (unfit s || heldWhole from s hold) (s .stopped) (isWaiting (linkOf from s)) e
 
   module _ (r : Ready from s hold) where
     few : heldOf from s ≤ 32783
@@ -70,7 +70,7 @@ module _ (from : Side) (s : Session) (hold piece : List ℕ) where
       go : (b : Bool) → eqb (barred from s hold) 0 ≡ b
           → Takes (cond b (byCut from s hold piece (cutAt (linkOf from s) (heldBytes from s hold ++ piece))) (unmoved s hold (barred from s hold))) piece
       go true e = cut-takes (ready from s hold (eqb-true (barred from s hold) 0 e)) (cutAt (linkOf from s) (heldBytes from s hold ++ piece)) refl
-      go false e = record { within = omega arith; some = λ g. absurd (false≢true (sym (barred-silent e) ∙ g)) }
+      go false e = record { within = omega arith; some = λ g. absurd (false≢true (sym (barred-no-line e) ∙ g)) }
 
 -- so a call uses up no more than the rest, and some of a rest that is not empty
 pub used-within : (o : Outcome) (rest : List ℕ) → Takes o rest → usedBy o rest ≤ length rest

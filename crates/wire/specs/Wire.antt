@@ -2,7 +2,7 @@
 -- same bytes, and no accepted packet's bytes begin another's. What the shared set doesn't allow is refused by number (`unshared-number`,
 -- `unsuited-number`).
 -- The header's laws and the round trip give the laws, and `Prefix.antt` of `roundtrip` the rest. What is not allowed is no hello: 10 or 11
--- refuses its header, or 21 or 22 what is not shared; a missing field or a stray stream breaks a field rule, 24, if none of 21 to 23 comes first.
+-- refuses its header, or 21 or 22 what is not shared; a missing field or a stream without bit 0 breaks a field rule, 24, if none of 21 to 23 comes first.
 -- Assumes nothing.
 use Prim.Native.Nat.{ℕ, _+_, _≤_}
 use native.Mathlib.Omega.{arith}
@@ -64,12 +64,12 @@ missing caps (f ∷ fs) (none ∷ vs) = (depends (f .there) && shared caps (f .t
 missing caps (f ∷ fs) (some xs ∷ vs) = missing caps fs vs
 
 -- "Stream is 0 in kind 101 without bit 0."
-abbrev pub stray : ℕ → List Field → Content → Bool
-stray caps fs p = eqb (p .kind) 101 && not (hasBit caps 0) && not (eqb (named "stream" fs (p .fields)) 0)
+abbrev pub streamUnshared : ℕ → List Field → Content → Bool
+streamUnshared caps fs p = eqb (p .kind) 101 && not (hasBit caps 0) && not (eqb (named "stream" fs (p .fields)) 0)
 
 abbrev pub unsuited : Link → Option Kind → Content → Bool
 unsuited l none p = false
-unsuited l (some k) p = missing (sharedSet l) (k .fields) (p .fields) || stray (sharedSet l) (k .fields) p
+unsuited l (some k) p = missing (sharedSet l) (k .fields) (p .fields) || streamUnshared (sharedSet l) (k .fields) p
 
 abbrev pub Unsuited : Link → Content → Type 0
 Unsuited l p = unsuited l (find (p .kind) kinds) p ≡ true
@@ -207,8 +207,8 @@ stream-zero from caps e (u ∷ v ∷ w ∷ some (x ∷ xs) ∷ vs) at h b =
     let good = first-good from caps e (u32 "stream" is zero-without 0) (drop 4 (layout 101)) (x ∷ xs) vs (at + 1 + 1 + 2) f 0 (omega arith) in
     eqb-true x 0 (rw h at good)
 
-stray-bad : (from : Side) (caps e : ℕ) (p : Content) → stray caps (layout 101) p ≡ true → isNone (badFields from caps e (layout 101) (p .fields) 0) ≡ true → ⊥
-stray-bad from caps e p s b =
+stream-bad : (from : Side) (caps e : ℕ) (p : Content) → streamUnshared caps (layout 101) p ≡ true → isNone (badFields from caps e (layout 101) (p .fields) 0) ≡ true → ⊥
+stream-bad from caps e p s b =
     let stream : ℕ = named "stream" (layout 101) (p .fields) in
     cases (hasBit caps 0)
     (λ h. false≢true (rw h at (and-parts (eqb (p .kind) 101) (not (hasBit caps 0)) (and-parts _ (not (eqb stream 0)) s .0) .1)))
@@ -223,13 +223,13 @@ unsuited-bad l p k f m =
     let rest = orElse (badTail (k .tail) (p .rest) (size (shared caps) (k .fields))) (badId (k .id) (p .id)) in
     cases (isNone (bad (l .sender) caps k p)) (λ b. absurd (go (missing caps (k .fields) (p .fields)) refl m (isNone-left fields rest b))) (λ b. rw b refl)
   where
-    go : (a : Bool) → missing (sharedSet l) (k .fields) (p .fields) ≡ a → (a || stray (sharedSet l) (k .fields) p) ≡ true
+    go : (a : Bool) → missing (sharedSet l) (k .fields) (p .fields) ≡ a → (a || streamUnshared (sharedSet l) (k .fields) p) ≡ true
         → isNone (badFields (l .sender) (sharedSet l) (named "endpoint" (k .fields) (p .fields)) (k .fields) (p .fields) 0) ≡ true → ⊥
     go true h m b = missing-bad (l .sender) (sharedSet l) _ (k .fields) (p .fields) 0 h b
     go false h m b =
         let n : p .kind ≡ 101 = eqb-true (p .kind) 101 (and-parts (eqb (p .kind) 101) _ (and-parts _ (not (eqb (named "stream" (k .fields) (p .fields)) 0)) m .0) .0) in
         let q : k .fields ≡ layout 101 = sym (ap fieldsOf f) ∙ ap layout n in
-        stray-bad (l .sender) (sharedSet l) (named "endpoint" (layout 101) (p .fields)) p (rw q at m) (rw q at b)
+        stream-bad (l .sender) (sharedSet l) (named "endpoint" (layout 101) (p .fields)) p (rw q at m) (rw q at b)
 
 -- ---- the numbers
 

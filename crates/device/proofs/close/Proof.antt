@@ -1,4 +1,4 @@
--- `device::close` meets its contract: after i steps the first i rows are shut and the others as they were.
+-- `device::close` meets its contract: after i steps the first i rows are closed and the others as they were.
 -- Assumes nothing.
 use Prim.Native.Nat.{_≤_, _-_}
 use mathlib.Core.Path.{_≡_, _∙_}
@@ -7,12 +7,12 @@ use borrow.Author.Needs.{needs}
 use lib.ListN.{length}
 use Rattle.scan.specs.Loop.{long-of, upTo, upto-none, upto-all}
 use Rattle.scan.specs.Laws.{upto-step}
-use Rattle.device.specs.Device.{shut, closed}
+use Rattle.device.specs.Device.{closedBy, closed}
 use Rattle.device.proofs.close.Statement.{statement}
 use Rattle.device.proofs.close.Tie as tie
 
 abbrev Inv-loop : tie.InvT-loop
-Inv-loop s out₀ i₀ out i = (i ≤ 32) × (out .rows ≡ upTo (shut s) 0 i (out₀ .rows))
+Inv-loop s out₀ i₀ out i = (i ≤ 32) × (out .rows ≡ upTo (closedBy s) 0 i (out₀ .rows))
 
 abbrev μ-loop : tie.MeasureT-loop
 μ-loop s out₀ i₀ out i = 32 - i
@@ -26,8 +26,8 @@ mul-old c = search needs
 element-copy-out-old : tie.Need-element-copy-out-old Inv-loop μ-loop
 element-copy-out-old c = search needs
 
-shut-row-requires : tie.Need-shut-row-requires Inv-loop μ-loop
-shut-row-requires c κs = search needs
+close-row-requires : tie.Need-close-row-requires Inv-loop μ-loop
+close-row-requires c κs = search needs
 
 mul-t7 : tie.Need-mul-t7 Inv-loop μ-loop
 mul-t7 c = search needs
@@ -45,7 +45,7 @@ loop-again : tie.Need-loop-again Inv-loop μ-loop
 loop-again c =
     let l = c .before .before .before .before .args .rows .rows in
     let n : length l ≡ 32 = search (needs, long-of) in
-    (search needs, upto-step _ _ l _ _ _ (omega arith) (c .before .before .before .loop .inv .1) (c .shut-row .ensures))
+    (search needs, upto-step _ _ l _ _ _ (omega arith) (c .before .before .before .loop .inv .1) (c .close-row .ensures))
 
 returns : tie.Need-returns Inv-loop μ-loop
 unfolding closed
@@ -64,7 +64,7 @@ close-spec =
     loop-holds
     mul-old
     element-copy-out-old
-    shut-row-requires
+    close-row-requires
     mul-t7
     element-set-from-out
     add-i

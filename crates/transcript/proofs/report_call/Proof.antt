@@ -5,7 +5,7 @@ use Prim.Native.Nat.{_≤_}
 use borrow.Author.Needs.{needs}
 use borrow.Author.Tests.{not-true, not-false}
 use Rattle.capture.specs.Lines.{largest}
-use Rattle.transcript.proofs.Laws.{call-silent, call-told}
+use Rattle.transcript.proofs.Laws.{call-no-line, call-told}
 use Rattle.transcript.proofs.report_call.Statement.{statement}
 use Rattle.transcript.proofs.report_call.Tie as tie
 
@@ -26,7 +26,7 @@ returns : tie.Need-returns
 returns c =
     let d = c .before .before .before .before .before .before in
     let a = d .before .before .before .before .before .before .before .args in
-    call-silent (a .from) (a .r) (a .hold .now) (a .rest .now) (a .out .now) (d .offer .result) (d .offer .ensures) (small (d .before .before .before .before .before .before .before)) (sym (c .before .gives-line .ensures) ∙ not-true _ (c .if1 .taken))
+    call-no-line (a .from) (a .r) (a .hold .now) (a .rest .now) (a .out .now) (d .offer .result) (d .offer .ensures) (small (d .before .before .before .before .before .before .before)) (sym (c .before .gives-line .ensures) ∙ not-true _ (c .if1 .taken))
 
 link-of-requires : tie.Need-link-of-requires
 link-of-requires c κs = search needs
