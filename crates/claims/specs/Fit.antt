@@ -12,8 +12,9 @@ use Rattle.device.specs.declared.Rows.{Rows}
 use Rattle.device.specs.Device.{closedRow, startRows, startDevice}
 use Rattle.requests.specs.declared.Place.{Place}
 use Rattle.requests.specs.declared.Requests.{Requests}
-use Rattle.requests.specs.Requests.{freePlace, taken, freshRequests, withPlace, clashes, idsDiffer}
+use Rattle.requests.specs.Requests.{freePlace, taken, freshRequests, withPlace, idsDiffer}
 use Rattle.scan.specs.Scan.{exists}
+use Rattle.requests.specs.Ids.{distinct, liveIds}
 use Rattle.session.specs.declared.Session.{Session}
 use Rattle.session.specs.Session.{freshSession, unfit}
 
@@ -35,7 +36,7 @@ pub held-counts :
     × (holding (Passed 0) Awaited 1 0 ≡ true)
     × (holding Awaited (Passed 0) 32783 0 ≡ false)
     × (holding Awaited (Passed 0) 0 1 ≡ true)
-unfolding unfit freshRequests idsDiffer clashes exists startRows
+unfolding unfit freshRequests idsDiffer distinct liveIds exists startRows
 held-counts = (refl, refl, refl, refl, refl, refl, refl, refl)
 
 -- a request of a kind with an id
@@ -51,7 +52,7 @@ pub ids :
     × (waiting (request 7 5) (request 100 5) ≡ true)
     × (waiting (request 7 0) (request 7 0) ≡ true)
     × (waiting (request 7 0) freePlace ≡ false)
-unfolding unfit freshRequests withPlace idsDiffer clashes exists startRows
+unfolding unfit freshRequests withPlace idsDiffer distinct liveIds exists startRows
 ids = (refl, refl, refl, refl)
 
 abbrev typed : ℕ → ℕ → Bool
@@ -59,7 +60,7 @@ typed r k = unfit (sessionWith (Passed 0) (Passed 0) 0 0 (record { rows = set (s
 
 -- "row 0 or 16 not control", and no other row is asked
 pub control-rows : (typed 0 2 ≡ true) × (typed 16 255 ≡ true) × (typed 0 0 ≡ false) × (typed 1 0 ≡ false) × (typed 31 7 ≡ false)
-unfolding unfit freshRequests idsDiffer clashes exists startRows
+unfolding unfit freshRequests idsDiffer distinct liveIds exists startRows
 control-rows = (refl, refl, refl, refl, refl)
 
 -- no hello has passed, nothing is stopped or held; no device, no introduction, no ack owed; rows and places as "Start" says

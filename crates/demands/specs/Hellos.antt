@@ -15,7 +15,8 @@ use Rattle.kinds.specs.Codec.{layout, contentAt, decode, readNumber}
 use Rattle.kinds.specs.Number.{bad, kindNumber, wireNumber}
 use Rattle.scan.specs.Scan.{firstAt, exists, anyAt, eachAt}
 use Rattle.device.specs.Device.{startRows, startDevice}
-use Rattle.requests.specs.Requests.{freshRequests, idsDiffer, clashes, lowest}
+use Rattle.requests.specs.Requests.{freshRequests, idsDiffer, lowest}
+use Rattle.requests.specs.Ids.{distinct, liveIds}
 use Rattle.events.specs.Meaning.{meanings}
 use Rattle.events.specs.Event.{meaningOf, eventOf}
 use Rattle.checks.specs.Checks.{matchOf, numberFor}
@@ -42,6 +43,6 @@ room : (d : Side) → 32784 ≤ length (buffers d)
 room d = omega (arith, length-replicate {A = ℕ} 32784 0)
 
 pub hellos-start : (d : Side) → Starts d (stateOf d (final (begun buffers) hellos))
-unfolding final offerOf barred unfit verdictOf cutOf readNumber decode contentAt headerSize headerNumber idWidth sharedSet wireNumber kindNumber bad layout kinds freshSession judged numberFor matchOf nextFor eventOf meaningOf meanings startRows startDevice freshRequests lowest idsDiffer clashes firstAt exists anyAt eachAt
+unfolding final offerOf barred unfit verdictOf cutOf readNumber decode contentAt headerSize headerNumber idWidth sharedSet wireNumber kindNumber bad layout kinds freshSession judged numberFor matchOf nextFor eventOf meaningOf meanings startRows startDevice freshRequests lowest idsDiffer distinct liveIds firstAt exists anyAt eachAt
 hellos-start Guest = begun-starts buffers room hellos Guest refl refl refl refl
 hellos-start Host = begun-starts buffers room hellos Host refl refl refl refl

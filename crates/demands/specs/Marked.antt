@@ -25,7 +25,8 @@ use Rattle.scan.specs.Scan.{firstAt, exists, anyAt, eachAt}
 use Rattle.device.specs.declared.Introduction.the-variants.{Two}
 use Rattle.device.specs.Device.{bulk, startRows, startDevice, replaced, streamTo, closed, touched}
 use Rattle.requests.specs.declared.Place.{Place}
-use Rattle.requests.specs.Requests.{freshRequests, taken, idsDiffer, clashes, lowest, withPlace, released}
+use Rattle.requests.specs.Requests.{freshRequests, taken, idsDiffer, lowest, withPlace, released}
+use Rattle.requests.specs.Ids.{distinct, liveIds}
 use Rattle.kinds.specs.Examples.{packet}
 use Rattle.events.specs.Meaning.{meanings}
 use Rattle.events.specs.Event.{meaningOf, eventOf}
@@ -149,5 +150,5 @@ AsExpected [] = Unit {0}
 AsExpected (e ∷ es) = (e .gives ≡ e .expected) × AsExpected es
 
 pub as-marked : AsExpected marked
-unfolding marked numbers offerOf barred unfit verdictOf readOf cutOf shut output outputSize written writtenSize writeNumber packetNumber readNumber encode decode contentAt headerSize headerBytes headerNumber idWidth sharedSet wireNumber kindNumber bad layout kinds freshSession judged numberFor matchOf nextFor eventOf meaningOf meanings startRows startDevice replaced streamTo closed touched freshRequests lowest withPlace released idsDiffer clashes firstAt exists anyAt eachAt
+unfolding marked numbers offerOf barred unfit verdictOf readOf cutOf shut output outputSize written writtenSize writeNumber packetNumber readNumber encode decode contentAt headerSize headerBytes headerNumber idWidth sharedSet wireNumber kindNumber bad layout kinds freshSession judged numberFor matchOf nextFor eventOf meaningOf meanings startRows startDevice replaced streamTo closed touched freshRequests lowest withPlace released idsDiffer distinct liveIds firstAt exists anyAt eachAt
 as-marked = (refl, (refl, (refl, (refl, (refl, (refl, (refl, (refl, (refl, (refl, (refl, (refl, (refl, (refl, tt))))))))))))))

@@ -27,7 +27,8 @@ use Rattle.requests.specs.declared.Place.{Place}
 use Rattle.requests.specs.declared.Requests.{Requests}
 use Rattle.requests.specs.declared.Query.{Query}
 use Rattle.requests.specs.declared.Query.the-variants.{Id}
-use Rattle.requests.specs.Requests.{freePlace, freshRequests, isData, taken, meets, hasId, lowest, placeAt, withPlace, ends, keptOf, released, clashes, idsDiffer}
+use Rattle.requests.specs.Requests.{freePlace, freshRequests, isData, taken, meets, hasId, lowest, placeAt, withPlace, ends, keptOf, released, idsDiffer}
+use Rattle.requests.specs.Ids.{same, distinct, liveIds}
 
 -- ---- what a change leaves
 
@@ -68,49 +69,70 @@ module _ (n : ℕ) (p : Place) where
   id-had : hasId n p ≡ true → (p .live ≡ true) × (p .request .id ≡ n)
   id-had e = let r = and-parts (p .live) (eqb (p .request .id) n) e in (r .0, eqb-true (p .request .id) n (r .1))
 
+-- n is the id of a live request where it is among their ids
+live-has : (n : ℕ) (l : List Place) → exists (same n) (liveIds l) ≡ exists (hasId n) l
+unfolding liveIds exists
+live-has n [] = refl
+live-has n (p ∷ ps) =
+    cases (p .live)
+    (λ e. rw (e, live-has n ps))
+    (λ e. rw (e, live-has n ps))
+
 module _ (p : Place) (ps : List Place) where
-  -- where the first place does not clash, no later one has its id
-  first-apart : clashes (p ∷ ps) ≡ false → p .live ≡ true → (j : ℕ) → j < length ps
-      → getD ps j freePlace .live ≡ true → getD ps j freePlace .request .id ≡ p .request .id → ⊥
-  unfolding clashes
-  first-apart c e j h f q =
+  -- where the first place is live, no later one has its id
+  first-apart : idsDiffer (p ∷ ps) ≡ true → p .live ≡ true → exists (hasId (p .request .id)) ps ≡ false
+  unfolding idsDiffer distinct liveIds
+  first-apart d e =
       let n = p .request .id in
-      let x : exists (hasId n) ps ≡ true = exists-at (hasId n) ps freePlace j h (has-id n (getD ps j freePlace) f q) in
-      true≢false (sym (rw (e, x)) ∙ c)
+      sym (live-has n ps) ∙ not-true (exists (same n) (liveIds ps)) (and-parts (not (exists (same n) (liveIds ps))) (distinct (liveIds ps)) (rw e at d) .0)
 
-  -- where the ids differ, the first place does not clash
-  no-clash : Differ (p ∷ ps) → clashes (p ∷ ps) ≡ false
-  unfolding clashes
-  no-clash d = cases (p .live) (λ e. rw e (exists-not (hasId n) ps freePlace (other e))) (λ e. rw e)
-    where
-      n : ℕ
-      n = p .request .id
+  -- nor do the later ones have one id
+  later-apart : idsDiffer (p ∷ ps) ≡ true → idsDiffer ps ≡ true
+  unfolding idsDiffer distinct liveIds
+  later-apart d =
+      cases (p .live)
+      (λ e. and-parts (not (exists (same (p .request .id)) (liveIds ps))) (distinct (liveIds ps)) (rw e at d) .1)
+      (λ e. rw e at d)
 
-      later : p .live ≡ true → (j : ℕ) → j < length ps → hasId n (getD ps j freePlace) ≡ true → ⊥
-      later e j h m =
-          let r = id-had n (getD ps j freePlace) m in
-          let z : 0 ≡ suc j = d 0 (suc j) (omega arith) (omega arith) e (r .0) (sym (r .1)) in
-          omega (arith, z)
+  -- so the ids of all differ
+  all-apart : (p .live ≡ true → exists (hasId (p .request .id)) ps ≡ false) → idsDiffer ps ≡ true → idsDiffer (p ∷ ps) ≡ true
+  unfolding idsDiffer distinct liveIds
+  all-apart f d =
+      cases (p .live)
+      (λ e. rw (e, live-has (p .request .id) ps, f e) d)
+      (λ e. rw e d)
 
-      other : p .live ≡ true → (j : ℕ) → j < length ps → hasId n (getD ps j freePlace) ≡ false
-      other e j h = cases (hasId n (getD ps j freePlace)) (λ m. absurd (later e j h m)) (λ m. m)
-
-  split : idsDiffer (p ∷ ps) ≡ true → (clashes (p ∷ ps) ≡ false) × (idsDiffer ps ≡ true)
-  unfolding idsDiffer
-  split d = let r = and-parts (not (clashes (p ∷ ps))) (idsDiffer ps) d in (not-true (clashes (p ∷ ps)) (r .0), r .1)
+  -- a later place with the id of the first, which is live
+  clash : idsDiffer (p ∷ ps) ≡ true → p .live ≡ true → (j : ℕ) → j < length ps
+      → getD ps j freePlace .live ≡ true → getD ps j freePlace .request .id ≡ p .request .id → ⊥
+  clash d e j h f q =
+      let n = p .request .id in
+      true≢false (sym (exists-at (hasId n) ps freePlace j h (has-id n (getD ps j freePlace) f q)) ∙ first-apart d e)
 
 pub differ-when : (l : List Place) → idsDiffer l ≡ true → Differ l
 differ-when [] d i j h k e f q = absurd (omega arith)
 differ-when (p ∷ ps) d zero zero h k e f q = refl
-differ-when (p ∷ ps) d zero (suc j) h k e f q = absurd (first-apart p ps (split p ps d .0) e j (omega arith) f (sym q))
-differ-when (p ∷ ps) d (suc i) zero h k e f q = absurd (first-apart p ps (split p ps d .0) f i (omega arith) e q)
-differ-when (p ∷ ps) d (suc i) (suc j) h k e f q = ap suc (differ-when ps (split p ps d .1) i j (omega arith) (omega arith) e f q)
+differ-when (p ∷ ps) d zero (suc j) h k e f q = absurd (clash p ps d e j (omega arith) f (sym q))
+differ-when (p ∷ ps) d (suc i) zero h k e f q = absurd (clash p ps d f i (omega arith) e q)
+differ-when (p ∷ ps) d (suc i) (suc j) h k e f q = ap suc (differ-when ps (later-apart p ps d) i j (omega arith) (omega arith) e f q)
 
 pub when-differ : (l : List Place) → Differ l → idsDiffer l ≡ true
-unfolding idsDiffer
+unfolding idsDiffer distinct liveIds
 when-differ [] d = refl
-when-differ (p ∷ ps) d = rw (no-clash p ps d) (when-differ ps rest)
+when-differ (p ∷ ps) d = all-apart p ps (λ e. exists-not (hasId n) ps freePlace (other e)) (when-differ ps rest)
   where
+    n : ℕ
+    n = p .request .id
+
+    later : p .live ≡ true → (j : ℕ) → j < length ps → hasId n (getD ps j freePlace) ≡ true → ⊥
+    later e j h m =
+        let r = id-had n (getD ps j freePlace) m in
+        let z : 0 ≡ suc j = d 0 (suc j) (omega arith) (omega arith) e (r .0) (sym (r .1)) in
+        omega (arith, z)
+
+    other : p .live ≡ true → (j : ℕ) → j < length ps → hasId n (getD ps j freePlace) ≡ false
+    other e j h = cases (hasId n (getD ps j freePlace)) (λ m. absurd (later e j h m)) (λ m. m)
+
     rest : Differ ps
     rest i j h k e f q = let z : suc i ≡ suc j = d (suc i) (suc j) (omega arith) (omega arith) e f q in omega arith
 
@@ -146,7 +168,7 @@ differ-kept l m free each d = differ-by m (λ j. now (free j) j) each (λ i j h 
     apart i j false false e f q = differ-when l d i j (live-within l i e) (live-within l j f) e f q
 
 pub fresh-differ : idsDiffer (freshRequests .places) ≡ true
-unfolding freshRequests idsDiffer
+unfolding freshRequests idsDiffer distinct liveIds
 fresh-differ =
     differ-kept [] (replicate 96 freePlace) (λ j. true) (λ j h. getD-replicate 96 j freePlace freePlace (rw (← length-replicate 96 freePlace) h)) refl
 

@@ -1,3 +1,3 @@
+pub mod Ids
 pub mod Requests
 pub mod Laws
-pub mod Ids

@@ -2,14 +2,14 @@
 -- Assumes nothing: these are definitions.
 use Prim.Native.Nat.{ℕ}
 use mathlib.Core.Bool.{Bool, true, false, cond, not, _&&_, _||_}
-use mathlib.Core.List.{List, [], _∷_}
+use mathlib.Core.List.{List}
 use mathlib.Core.Option.{Option, none, some}
 use lib.ListN.{getD, set, replicate}
 use lib.Dec.{eqb}
 use Rattle.device.specs.declared.Rows.{Rows}
 use Rattle.device.specs.declared.Scope.{Scope}
 use Rattle.device.specs.Device.{touched}
-use Rattle.scan.specs.Scan.{firstAt, exists, eachAt}
+use Rattle.scan.specs.Scan.{firstAt, eachAt}
 use Rattle.requests.specs.declared.Request.{Request}
 use Rattle.requests.specs.declared.Place.{Place}
 use Rattle.requests.specs.declared.Requests.{Requests}
@@ -18,6 +18,7 @@ use Rattle.requests.specs.declared.Query.{Query}
 use Rattle.requests.specs.declared.Query.the-variants.{Free, Id, Settling, Answered}
 use Rattle.requests.specs.declared.Found.{Found}
 use Rattle.requests.specs.declared.Found.the-variants.{At, Nowhere}
+use Rattle.requests.specs.Ids.{distinct, liveIds}
 
 -- ---- places
 
@@ -88,11 +89,5 @@ released t rows s = record { places = eachAt (keptOf rows s) 0 (t .places) }
 
 -- ---- 43: "two live requests with one id"
 
--- the first of these places is live and a later one has its id
-unfoldable pub clashes : List Place → Bool
-clashes [] = false
-clashes (p ∷ ps) = p .live && exists (hasId (p .request .id)) ps
-
 unfoldable pub idsDiffer : List Place → Bool
-idsDiffer [] = true
-idsDiffer (p ∷ ps) = not (clashes (p ∷ ps)) && idsDiffer ps
+idsDiffer places = distinct (liveIds places)

@@ -5,7 +5,8 @@ use mathlib.Core.List.{[]}
 use Rattle.header.specs.Link.{sharedSet, idWidth}
 use Rattle.header.specs.Header.{headerSize, headerNumber}
 use Rattle.device.specs.Device.{startRows, startDevice}
-use Rattle.requests.specs.Requests.{freshRequests, clashes, idsDiffer}
+use Rattle.requests.specs.Requests.{freshRequests, idsDiffer}
+use Rattle.requests.specs.Ids.{distinct, liveIds}
 use Rattle.session.specs.Session.{freshSession, unfit}
 use Rattle.roundtrip.specs.Cut.{cutOf}
 use Rattle.gate.specs.Offer.{barred, offerOf}
@@ -20,7 +21,7 @@ empty = refl
 
 -- document 01's example
 example-input : outputOf (ascii "from=guest bytes=070000000000000007000000\n") ≡ ascii "from=guest type=7 length=0 id=7 answer=11\npassed=0 refused=1 stopped=1\n"
-unfolding linesOf inFront outputFrom start totalsLine answerLine digits lineOf startsWith allHex spelt freshSession reportBy offerOf barred unfit cutOf headerSize headerNumber idWidth sharedSet idsDiffer freshRequests clashes startDevice startRows
+unfolding linesOf inFront outputFrom start totalsLine answerLine digits lineOf startsWith allHex spelt freshSession reportBy offerOf barred unfit cutOf headerSize headerNumber idWidth sharedSet idsDiffer freshRequests distinct liveIds startDevice startRows
 example-input = refl
 
 -- the newline at the end may be missing, and there is nothing behind a bad line but the totals

@@ -10,8 +10,8 @@ use lib.ListN.{length, take, drop, getD, set, length-set}
 use lib.Seq.{length-take-le}
 use borrow.Author.Needs.{needs}
 use Rattle.scan.specs.Loop.{long-of}
-use Rattle.requests.specs.Requests.{freePlace}
-use Rattle.requests.specs.Ids.{distinct, liveIds, distinct-ids}
+use Rattle.requests.specs.Requests.{freePlace, idsDiffer}
+use Rattle.requests.specs.Ids.{distinct, liveIds}
 use Rattle.requests.proofs.Laws.{live-more, live-same, live-none}
 use Rattle.requests.proofs.ids_differ.Statement.{statement}
 use Rattle.requests.proofs.ids_differ.Tie as tie
@@ -77,13 +77,14 @@ all-differ-requires : tie.Need-all-differ-requires Inv-loop μ-loop
 all-differ-requires c κs = search needs
 
 returns : tie.Need-returns Inv-loop μ-loop
+unfolding idsDiffer
 returns c =
     let l = c .before .before .before .before .args .t1 .places in
     let n : length l ≡ 96 = search (needs, long-of) in
     let k = c .before .before .before .loop in
     let h : length l ≤ k .i = omega arith in
     let g : take (k .n) (k .ids) ≡ liveIds l = sym (append-nil (take (k .n) (k .ids))) ∙ ap (λ r. take (k .n) (k .ids) ++ r) (sym (live-none l (k .i) h)) ∙ k .inv .1 .1 .1 in
-    c .all-differ .ensures ∙ ap distinct g ∙ distinct-ids l
+    c .all-differ .ensures ∙ ap distinct g
 
 pub ids-differ-spec : {M : Type 1} → statement M
 ids-differ-spec =
