@@ -4,6 +4,7 @@ pub mod Demand1
 pub mod Demand2
 pub mod Demand3
 pub mod Data
+pub mod OneAnswer
 pub mod Cuts
 pub mod Sent
 pub mod Calls

@@ -23,6 +23,7 @@ use Rattle.header.specs.declared.Side.the-variants.{Guest, Host}
 use Rattle.packet.specs.declared.Part.{Part}
 use Rattle.packet.specs.declared.Packet.{Packet}
 use Rattle.packet.specs.Packet.{partNamed}
+use Rattle.packet.specs.Same.{shown-same}
 use Rattle.session.specs.declared.Session.{Session}
 use Rattle.session.specs.Session.{freshSession, linkOf}
 use Rattle.verdict.specs.declared.Handed.{Handed}
@@ -35,7 +36,6 @@ use Rattle.gate.specs.Offer.{outcome, offerOf}
 use Rattle.drive.specs.declared.Data.{Data}
 use Rattle.drive.specs.Drive.{sizeAt, pieceAt, senderAt, placeNumber, startOf, endOf, idOf, recordBytes, recordOf, Run, ownOf, recorded, called, runOf, driven, Drives}
 use Rattle.drive.specs.Steps.{spanOf, answerBytes}
-use Rattle.drive.proofs.Named.{part-named}
 
 -- ---- a record
 
@@ -103,7 +103,7 @@ module _ (number place taken size : ℕ) where
   handed-bytes l bytes Nothing = refl
   handed-bytes l bytes (Passed h p) =
       low-record (h .size + partNamed p .start) (h .size + partNamed p .end) (h .id)
-      ∙ ap (λ (q : Part). recordBytes number place taken size (h .size + q .start) (h .size + q .end) (h .id)) (sym (part-named (sharedSet l) p))
+      ∙ ap (λ (q : Part). recordBytes number place taken size (h .size + q .start) (h .size + q .end) (h .id)) (sym (shown-same (sharedSet l) p .1))
 
 answer-bytes : (l : Link) (r : Offered) (piece hold : List ℕ) → answerBytes (r .answer) ≡ recordOf (outcome l r piece hold)
 answer-bytes l r piece hold = handed-bytes _ _ _ _ l (bytesAt (r .answer .place) (r .answer .size) piece hold) (r .answer .handed)

@@ -1,27 +1,23 @@
 -- The event that the code builds for each packet is the one that the table of meanings gives it: a line for each variant, by computation.
 -- Assumes nothing.
-use Prim.Native.Nat.{ℕ, _+_, _*_, _/_, _%_, _≤_}
+use Prim.Native.Nat.{ℕ}
 use native.Mathlib.Nat.{add-zero}
-use native.Mathlib.Omega.{arith}
 use mathlib.Core.Path.{_≡_, refl, sym, ap}
-use mathlib.Core.Bool.{Bool, true, false, cond, _||_}
+use mathlib.Core.Bool.{true, false}
 use mathlib.Core.List.{List}
-use mathlib.Core.Option.{none}
-use lib.Dec.{ltb}
-use borrow.Author.Tests.{ltb-false}
 use borrow.Table.Steps.{cases}
 use Rattle.number.specs.Little.{le}
 use Rattle.number.specs.Laws.{le-drop}
-use Rattle.number.specs.Bits.{hasBit}
 use Rattle.endpoint.specs.Endpoint.{isIn}
 use Rattle.header.specs.declared.Side.{Side}
 use Rattle.header.specs.declared.Side.the-variants.{Guest, Host}
 use Rattle.kinds.specs.Table.{kinds}
-use Rattle.kinds.specs.Content.{one, split, firstNumber}
+use Rattle.kinds.specs.Content.{split}
 use Rattle.kinds.specs.Codec.{layout}
 use Rattle.packet.specs.declared.Packet.{Packet}
 use Rattle.packet.specs.declared.Packet.the-variants.{Hello, Connect, Disconnect, Reset, InterfaceTable, EndpointTable, SetConfiguration, GetConfiguration, ConfigurationStatus, SetAlt, GetAlt, AltStatus, StartIso, StopIso, IsoStatus, StartInterrupt, StopInterrupt, InterruptStatus, AllocStreams, FreeStreams, StreamsStatus, Cancel, FilterReject, Filter, DisconnectAck, StartBulkReceiving, StopBulkReceiving, BulkReceivingStatus, Control, Bulk, Iso, Interrupt, BufferedBulk}
-use Rattle.packet.specs.Packet.{inPart, high, columnsOf, contentOf}
+use Rattle.packet.specs.Packet.{inPart, columnsOf, contentOf}
+use Rattle.packet.specs.Same.{bulk-count}
 use Rattle.device.specs.Device.{control, iso, bulk, interrupt}
 use Rattle.events.specs.declared.Class.the-variants as classes
 use Rattle.events.specs.declared.Event.{Event}
@@ -69,16 +65,6 @@ builds from id (BufferedBulk stream n e status part) body = endpointEvent from 1
 
 -- ---- is what the packet means
 
--- a bulk packet's count from its two parts: the high one is there, or the count fits into the low one
-count-back : (b c : Bool) (n : ℕ) → (c ≡ false → n ≤ 65535) → n % 65536 + 65536 * firstNumber (cond (b || c) (one (n / 65536)) none) ≡ n
-count-back true c n h = omega arith
-count-back false true n h = omega arith
-count-back false false n h = let l : n ≤ 65535 = h refl in omega arith
-
-count : (caps n : ℕ) → n % 65536 + 65536 * firstNumber (high caps n) ≡ n
-count caps n = count-back (hasBit caps 6) (ltb 65535 n) n (ltb-false 65535 n)
-
--- both outcomes of a test
 pub means : (from : Side) (id : ℕ) (p : Packet) (body : List ℕ) → Means from id p body (builds from id p body)
 unfolding meanings meaningOf eventOf kinds layout contentOf
 means from id (Hello part) body caps = ap (λ (w : ℕ). withWord w (plainEvent from 0 id classes.Hello)) (sym (le-drop 4 64 (inPart part body) 0))
@@ -111,8 +97,8 @@ means from id (StopBulkReceiving stream e) body caps = refl
 means from id (BulkReceivingStatus stream e status) body caps = refl
 means Guest id (Control e request requesttype status value index n part) body caps = rw add-zero
 means Host id (Control e request requesttype status value index n part) body caps = rw add-zero
-means Guest id (Bulk e status n stream part) body caps = rw (count caps n)
-means Host id (Bulk e status n stream part) body caps = rw (count caps n)
+means Guest id (Bulk e status n stream part) body caps = rw (bulk-count caps n)
+means Host id (Bulk e status n stream part) body caps = rw (bulk-count caps n)
 means from id (Iso e status n part) body caps = rw add-zero
 means Guest id (Interrupt e status n part) body caps = rw add-zero
 means Host id (Interrupt e status n part) body caps = cases (isIn e) (λ t. rw (t, add-zero)) (λ t. rw (t, add-zero))

@@ -1,7 +1,7 @@
 -- What `body_of` and `data_of` lend, and what a writer call of the code gives, case by case, is what the definition gives: a call that is shut
 -- (`write-shut`), and one that leaves what the encoder leaves (`write-open`).
 -- Each case computes once the code's equations are put in. The code asks of the packet whether it is a hello, the definition of its content under
--- the shared set: a packet's kind is the same whatever is shared, a line for each variant (`kind-same`).
+-- the shared set: a packet's kind is the same whatever is shared (`shown-same`).
 -- Assumes nothing.
 use Prim.Native.Nat.{ℕ}
 use mathlib.Core.Path.{_≡_, refl, sym, ap, _∙_}
@@ -18,8 +18,8 @@ use Rattle.header.specs.Link.{sharedSet}
 use Rattle.kinds.specs.Content.{Content}
 use Rattle.packet.specs.declared.Part.{Part}
 use Rattle.packet.specs.declared.Packet.{Packet}
-use Rattle.packet.specs.declared.Packet.the-variants.{Hello, Connect, Disconnect, Reset, InterfaceTable, EndpointTable, SetConfiguration, GetConfiguration, ConfigurationStatus, SetAlt, GetAlt, AltStatus, StartIso, StopIso, IsoStatus, StartInterrupt, StopInterrupt, InterruptStatus, AllocStreams, FreeStreams, StreamsStatus, Cancel, FilterReject, Filter, DisconnectAck, StartBulkReceiving, StopBulkReceiving, BulkReceivingStatus, Control, Bulk, Iso, Interrupt, BufferedBulk}
-use Rattle.packet.specs.Packet.{shownOf, contentOf, inPart, partNamed, isHello}
+use Rattle.packet.specs.Packet.{contentOf, inPart, partNamed, isHello}
+use Rattle.packet.specs.Same.{shown-same}
 use Rattle.encoder.specs.declared.Written.{Written}
 use Rattle.encoder.specs.Written.{Writes}
 use Rattle.session.specs.declared.Session.{Session}
@@ -57,45 +57,9 @@ shut-last from s hello e z el ew et =
     let v : (isWaiting (linkOf from s) && not hello) ≡ _ = ap (λ (x : Bool). x && not hello) (ap isWaiting (sym el) ∙ sym ew) ∙ et in
     rw (e, z) (ap (λ (x : Bool). cond x 2 0) (sym v))
 
--- a packet's kind, whatever is shared
-kind-same : (caps : ℕ) (p : Packet) → shownOf caps p .kind ≡ shownOf 0 p .kind
-kind-same caps (Hello a) = refl
-kind-same caps (Connect a b c d e f g) = refl
-kind-same caps Disconnect = refl
-kind-same caps Reset = refl
-kind-same caps (InterfaceTable a b) = refl
-kind-same caps (EndpointTable a b c) = refl
-kind-same caps (SetConfiguration a) = refl
-kind-same caps GetConfiguration = refl
-kind-same caps (ConfigurationStatus a b) = refl
-kind-same caps (SetAlt a b) = refl
-kind-same caps (GetAlt a) = refl
-kind-same caps (AltStatus a b c) = refl
-kind-same caps (StartIso a b c) = refl
-kind-same caps (StopIso a) = refl
-kind-same caps (IsoStatus a b) = refl
-kind-same caps (StartInterrupt a) = refl
-kind-same caps (StopInterrupt a) = refl
-kind-same caps (InterruptStatus a b) = refl
-kind-same caps (AllocStreams a b) = refl
-kind-same caps (FreeStreams a) = refl
-kind-same caps (StreamsStatus a b c) = refl
-kind-same caps Cancel = refl
-kind-same caps FilterReject = refl
-kind-same caps (Filter a) = refl
-kind-same caps DisconnectAck = refl
-kind-same caps (StartBulkReceiving a b c d) = refl
-kind-same caps (StopBulkReceiving a b) = refl
-kind-same caps (BulkReceivingStatus a b c) = refl
-kind-same caps (Control a b c d e f g h) = refl
-kind-same caps (Bulk a b c d e) = refl
-kind-same caps (Iso a b c d) = refl
-kind-same caps (Interrupt a b c d) = refl
-kind-same caps (BufferedBulk a b c d e) = refl
-
 hello-is : (caps id : ℕ) (p : Packet) (body : List ℕ) → isHello p ≡ eqb (contentOf caps id p body .kind) 0
 unfolding contentOf
-hello-is caps id p body = ap (λ (k : ℕ). eqb k 0) (sym (kind-same caps p))
+hello-is caps id p body = ap (λ (k : ℕ). eqb k 0) (sym (shown-same caps p .0))
 
 module _ (from : Side) (s : Session) (id : ℕ) (p : Packet) (body out : List ℕ) {hello : Bool} {n : ℕ} (eh : hello ≡ isHello p) (en : n ≡ shut from s hello) where
   abbrev content : Content
