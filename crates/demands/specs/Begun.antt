@@ -1,5 +1,5 @@
 -- 43 is "session not one the gate can leave": from a session at its start, with two holding buffers that 41 allows, no list of reader calls meets
--- 41 or 43 (`never-refused`). So demand 3 starts from every session that the gate leads to (`begun-starts`).
+-- 41 or 43 (`never-refused`), nor does a writer call meet 43 (`never-refused-write`). So demand 3 starts from every session that the gate leads to (`begun-starts`).
 -- What 41 and 43 ask (`Left`) holds at the start and is kept by each way of a call, by induction over the calls. A hello that passes could change
 -- what the other's held bytes are (`other-unfinished`): but where the other's own has not passed, nothing is shared before or after; where it has
 -- and this one had not, nothing is held there; and where both had, no hello changes.
@@ -25,13 +25,13 @@ use Rattle.header.specs.Link.{offered, passed, own, sharedSet, idWidth, opposit
 use Rattle.header.specs.Header.{kindOf, lengthOf, headerSize, headerNumber}
 use Rattle.kinds.specs.Content.{Content}
 use Rattle.kinds.specs.Number.{wireNumber}
-use Rattle.kinds.specs.Codec.{decode, readNumber}
+use Rattle.kinds.specs.Codec.{bodyLength, packetNumber, encode, writeNumber, decode, readNumber}
 use Rattle.device.specs.Device.{controlRows}
 use Rattle.requests.specs.Requests.{idsDiffer}
 use Rattle.events.specs.declared.Event.{Event}
 use Rattle.events.specs.Event.{eventOf}
 use Rattle.session.specs.declared.Session.{Session}
-use Rattle.session.specs.Session.{freshSession, linkOf}
+use Rattle.session.specs.Session.{freshSession, linkOf, unfit}
 use Rattle.session.specs.Step.{isHello, keptHello, nextFor, judged}
 use Rattle.claims.specs.Allowed.{among}
 use Rattle.claims.specs.Steps.{step}
@@ -42,7 +42,10 @@ use Rattle.wire.specs.Wire.{usbredir, laws}
 use Rattle.frame.specs.Frame.{cutAt, completed}
 use Rattle.verdict.specs.Verdict.{stoppedNow, refusedAs, verdictOf}
 use Rattle.gate.specs.Offer.{heldOf, heldAs, heldBytes, isWaiting, barred, byCut, offerOf}
+use Rattle.gate.specs.Write.{shut, writeBy}
 use Rattle.gate.specs.Laws.{FitCount, Fit, fit-is, is-fit, completed-length, more-few, Ready, ready}
+use Rattle.demands.specs.Numbers.{header-numbers, wire-numbers}
+use Rattle.demands.specs.Demand1.{next-number}
 use Rattle.demands.specs.Kept.{kept-front, held-as, same-held, whole-number}
 use Rattle.demands.specs.Cuts.{of-side, Both, Call, answerTo, next, final, heldBy, ends, verdict-ends}
 use Rattle.demands.specs.Calls.{Unfinished, header-ends}
@@ -389,6 +392,37 @@ answer-fit x c h =
 pub never-refused : (hold : Side → List ℕ) → ((d : Side) → 32784 ≤ length (hold d)) → (cs : List Call) (c : Call)
     → refusedState (answerTo (final (begun hold) cs) c .number) ≡ false
 never-refused hold room cs c = answer-fit (final (begun hold) cs) c (left-kept (begun hold) cs (begun-left hold room))
+
+-- ---- nor does a writer call
+
+fit-written : (d : Side) (s : Session) (p : Content) (room : ℕ) → unfit s ≡ false → writeBy d s p room ≡ 43 → ⊥
+unfolding writeBy shut writeNumber packetNumber
+fit-written d s p room e =
+    next-number P (shut d s (eqb (p .kind) 0)) (writeNumber l p room) (rw e (opened (s .stopped) (isWaiting l && not (eqb (p .kind) 0))))
+    (next-number P (packetNumber l p) _ (next-number P (headerNumber l (p .kind) (bodyLength l p)) (wireNumber l p)
+    (header-numbers P ((λ z. omega arith), ((λ z. omega arith), ((λ z. omega arith), ((λ z. omega arith), tt)))) l (p .kind) (bodyLength l p))
+    (wire-numbers P ((λ z. omega arith), ((λ z. omega arith), ((λ z. omega arith), ((λ z. omega arith), ((λ z. omega arith), ((λ z. omega arith), ((λ z. omega arith), tt))))))) l p))
+    (spaced (ltb room (length (encode l p)))))
+  where
+    l : Link
+    l = linkOf d s
+
+    P : ℕ → Type 0
+    P m = m ≡ 43 → ⊥
+
+    opened : (a b : Bool) → P (cond a 3 (cond b 2 0))
+    opened true b z = omega arith
+    opened false true z = omega arith
+    opened false false z = omega arith
+
+    spaced : (b : Bool) → P (cond b 40 0)
+    spaced true z = omega arith
+    spaced false z = omega arith
+
+pub never-refused-write : (hold : Side → List ℕ) → ((d : Side) → 32784 ≤ length (hold d)) → (cs : List Call) (d : Side) (p : Content) (room : ℕ)
+    → writeBy d (final (begun hold) cs .session) p room ≡ 43 → ⊥
+never-refused-write hold room cs d p out =
+    fit-written d (final (begun hold) cs .session) p out (is-fit (final (begun hold) cs .session) (left-kept (begun hold) cs (begun-left hold room) .fit))
 
 -- ---- demand 3 starts from every such session
 

@@ -1,6 +1,6 @@
 -- What `gate::body_of` lends is the packet's bytes behind its header, as many as the header says (`body-lent`), and nothing where no packet is
 -- handed out (`nothing-lent`). What `gate::data_of` lends of it is, for the kinds that have a string or data behind their fields, the rest of the
--- content that demand 3 speaks of; for a hello and the tables, what their fields and words are read off (`data-lent`).
+-- content that demand 3 speaks of; for a hello and the tables, what their fields and words are read off (`data-lent`), row by row (`rows-lent`).
 -- At 0 a packet passes (`demand-2`), what is handed out is the reading of its bytes (`is-handed`), and `leaves` says that these lie where the
 -- answer tells. At any other number each way of a call hands nothing out. The data goes kind by kind, by computation.
 -- Assumes nothing.
@@ -22,11 +22,13 @@ use Rattle.header.specs.Header.{headerOf, lengthOf}
 use Rattle.header.specs.Link.{sharedSet}
 use Rattle.endpoint.specs.declared.Endpoint.{Endpoint}
 use Rattle.kinds.specs.Table.{kinds}
+use Rattle.kinds.specs.Content.{Value}
 use Rattle.kinds.specs.Codec.{layout, decode, readNumber}
 use Rattle.packet.specs.declared.Part.{Part}
 use Rattle.packet.specs.declared.Packet.{Packet}
 use Rattle.packet.specs.declared.Packet.the-variants.{Hello, InterfaceTable, EndpointTable, Filter, Control, Bulk, Iso, Interrupt, BufferedBulk}
-use Rattle.packet.specs.Packet.{shownOf, said, contentOf}
+use Rattle.packet.specs.Packet.{shownOf, said, contentOf, optional16Of}
+use Rattle.rows.specs.Rows.{element, interfaceRow, endpointRow, optional32Of}
 use Rattle.decoder.specs.Reading.{Handed, readOf}
 use Rattle.events.specs.Event.{eventOf}
 use Rattle.session.specs.declared.Session.{Session}
@@ -180,3 +182,33 @@ data-lent caps h bytes =
       interrupt = λ e status n d. refl;
       buffered-bulk = λ stream n e status d. refl;
     }
+
+-- ---- the rows of a table
+
+-- what a packet says, with its header and the bytes that are lent
+abbrev saidFields : ℕ → Header → List ℕ → Packet → List Value
+saidFields caps h bytes p = contentOf caps (h .id) p (bodyIn (Passed h p) bytes) .fields
+
+-- "tables are read by row": row i of what is lent is element i of each field
+pub record RowsLent (caps : ℕ) (h : Header) (bytes : List ℕ) : Type 0 where
+  pub interface-row : (count : ℕ) (d : Part) (i : ℕ)
+      → interfaceRow (dataIn (Passed h (InterfaceTable count d)) bytes) i
+      ≡ record {
+        number = element "number" (layout 4) (saidFields caps h bytes (InterfaceTable count d)) i;
+        class = element "class" (layout 4) (saidFields caps h bytes (InterfaceTable count d)) i;
+        subclass = element "subclass" (layout 4) (saidFields caps h bytes (InterfaceTable count d)) i;
+        protocol = element "protocol" (layout 4) (saidFields caps h bytes (InterfaceTable count d)) i;
+      }
+  pub endpoint-row : (d : Part) (packets streams : Bool) (i : ℕ)
+      → endpointRow (dataIn (Passed h (EndpointTable d packets streams)) bytes) packets streams i
+      ≡ record {
+        kind = element "type" (layout 5) (saidFields caps h bytes (EndpointTable d packets streams)) i;
+        interval = element "interval" (layout 5) (saidFields caps h bytes (EndpointTable d packets streams)) i;
+        interface = element "interface" (layout 5) (saidFields caps h bytes (EndpointTable d packets streams)) i;
+        maxpacket = optional16Of packets (element "max packet" (layout 5) (saidFields caps h bytes (EndpointTable d packets streams)) i);
+        maxstreams = optional32Of streams (element "max streams" (layout 5) (saidFields caps h bytes (EndpointTable d packets streams)) i);
+      }
+
+pub rows-lent : (caps : ℕ) (h : Header) (bytes : List ℕ) → RowsLent caps h bytes
+unfolding interfaceRow endpointRow contentOf layout kinds
+rows-lent caps h bytes = record { interface-row = λ count d i. refl; endpoint-row = λ d packets streams i. refl }

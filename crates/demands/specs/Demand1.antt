@@ -1,5 +1,5 @@
 -- Demand 1: every call gets a number of document 01, takes no more than its piece, and on refusal changes no endpoint, stream or request; a
--- refused write puts no byte out, and none changes a byte behind those that it puts out. That no call strays outside its memory is the checker's
+-- refused write puts no byte out, an accepted one its packet's, and none changes a byte behind those that it puts out. That no call strays outside its memory is the checker's
 -- own condition on every access.
 -- A reader call is barred or goes by its cut, with the numbers of each way (`Numbers.antt`); what the judge refuses leaves the session as it was.
 -- A writer call is refused, or has put the packet in front, for which there was room (`writer-exactly`).
@@ -68,6 +68,9 @@ pub record Put (from : Side) (s : Session) (p : Content) (out : List ℕ) : Type
   -- "every byte of memory it was handed, also on refusal": behind the bytes put out the output is as it was, and as long
   pub behind : drop (outputSize from s p (length out)) (output from s p out) ≡ drop (outputSize from s p (length out)) out
   pub as-long : length (output from s p out) ≡ length out
+  -- an accepted packet's bytes stand in front
+  pub accepted : writeBy from s p (length out) ≡ 0
+      → (output from s p out ≡ encode (linkOf from s) p ++ drop (length (encode (linkOf from s) p)) out) × (outputSize from s p (length out) ≡ length (encode (linkOf from s) p))
   -- "a refused write puts no byte out"
   pub output : (writeBy from s p (length out) ≡ 0 → ⊥) → output from s p out ≡ out
   pub size : (writeBy from s p (length out) ≡ 0 → ⊥) → outputSize from s p (length out) ≡ 0
@@ -148,7 +151,8 @@ shut-number from s hello = go (unfit s) (s .stopped) (isWaiting (linkOf from s) 
     go false false true = refl
     go false false false = refl
 
-next-number : (P : ℕ → Type 0) (n m : ℕ) → P n → P m → P (orNext n m)
+-- what holds of both numbers holds of the first that is not 0
+pub next-number : (P : ℕ → Type 0) (n m : ℕ) → P n → P m → P (orNext n m)
 next-number P n m p q = go (eqb n 0)
   where
     go : (b : Bool) → P (cond b m n)
@@ -208,6 +212,7 @@ module _ (from : Side) (s : Session) (p : Content) (out : List ℕ) where
         number = write-number from s p (length out);
         behind = put-as-was .0;
         as-long = put-as-was .1;
+        accepted = accepted-put;
         output = λ z. refused-put z .0;
         size = λ z. refused-put z .1;
       }

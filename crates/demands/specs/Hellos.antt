@@ -1,6 +1,7 @@
--- Demand 3 starts somewhere: a session at its start that both ends sent their hello to, by computation.
+-- Demand 3 starts somewhere: a session at its start that both ends sent their hello to, with every capability (`hellos-start`) or with an end that
+-- has none (`old-start`). By computation.
 -- Assumes nothing.
-use Prim.Native.Nat.{ℕ, _≤_}
+use Prim.Native.Nat.{ℕ, _+_, _≤_}
 use native.Mathlib.Omega.{arith}
 use mathlib.Core.List.{List, [], _∷_, _++_}
 use mathlib.Core.Path.{refl}
@@ -29,20 +30,34 @@ use Rattle.demands.specs.Cuts.{Call, final}
 use Rattle.demands.specs.Demand3.{Starts}
 use Rattle.demands.specs.Begun.{begun, stateOf, begun-starts}
 
--- buffers of the least size, and a hello with every bit that is ever asked for
+-- buffers of the least size
 abbrev buffers : Side → List ℕ
 buffers d = replicate 32784 0
 
-abbrev hello : Side → Call
-hello from = record { from = from; piece = bytesOf 4 0 ++ (bytesOf 4 68 ++ (bytesOf 4 0 ++ (replicate 64 0 ++ bytesOf 4 255))) }
+-- a hello with these words, of bytes, and the two hellos
+abbrev hello : Side → List ℕ → Call
+hello from words = record { from = from; piece = bytesOf 4 0 ++ (bytesOf 4 (64 + length words) ++ (bytesOf 4 0 ++ (replicate 64 0 ++ words))) }
 
-abbrev hellos : List Call
-hellos = hello Guest ∷ hello Host ∷ []
+abbrev hellos : List ℕ → List ℕ → List Call
+hellos guest host = hello Guest guest ∷ hello Host host ∷ []
+
+-- every bit that is ever asked for; and an end that knows no capabilities
+abbrev newest : List ℕ
+newest = bytesOf 4 255
+
+abbrev oldest : List ℕ
+oldest = []
 
 room : (d : Side) → 32784 ≤ length (buffers d)
 room d = omega (arith, length-replicate {A = ℕ} 32784 0)
 
-pub hellos-start : (d : Side) → Starts d (stateOf d (final (begun buffers) hellos))
+pub hellos-start : (d : Side) → Starts d (stateOf d (final (begun buffers) (hellos newest newest)))
 unfolding final offerOf barred unfit verdictOf cutOf readNumber decode contentAt headerSize headerNumber idWidth sharedSet wireNumber kindNumber bad layout kinds freshSession judged numberFor matchOf nextFor eventOf meaningOf meanings startRows startDevice freshRequests lowest idsDiffer distinct liveIds firstAt exists anyAt eachAt
-hellos-start Guest = begun-starts buffers room hellos Guest refl refl refl refl
-hellos-start Host = begun-starts buffers room hellos Host refl refl refl refl
+hellos-start Guest = begun-starts buffers room (hellos newest newest) Guest refl refl refl refl
+hellos-start Host = begun-starts buffers room (hellos newest newest) Host refl refl refl refl
+
+-- "however old either end is"
+pub old-start : (d : Side) → Starts d (stateOf d (final (begun buffers) (hellos oldest newest)))
+unfolding final offerOf barred unfit verdictOf cutOf readNumber decode contentAt headerSize headerNumber idWidth sharedSet wireNumber kindNumber bad layout kinds freshSession judged numberFor matchOf nextFor eventOf meaningOf meanings startRows startDevice freshRequests lowest idsDiffer distinct liveIds firstAt exists anyAt eachAt
+old-start Guest = begun-starts buffers room (hellos oldest newest) Guest refl refl refl refl
+old-start Host = begun-starts buffers room (hellos oldest newest) Host refl refl refl refl

@@ -1,11 +1,12 @@
 -- Document 01's marked examples, M1 to M11: one list of examples under one claim, about the definitions that the contracts of the reader
--- and the writer cite. Each gives numbers: bytes put out, and the numbers of reader calls.
+-- and the writer cite. Each gives numbers: bytes put out, the numbers of reader calls, and of the packets that
+-- these hand out kind, id and what stands behind the fields.
 -- Assumes nothing.
 use Prim.Native.Nat.{ℕ, zero, suc}
 use Prim.Native.String.{String}
 use mathlib.Core.Bool.{true, false}
 use mathlib.Core.List.{List, [], _∷_, _++_}
-use mathlib.Core.Option.{none}
+use mathlib.Core.Option.{Option, none, some}
 use mathlib.Core.Path.{_≡_, refl}
 use lib.ListN.{length, take, set, replicate}
 use Rattle.number.specs.Little.{bytesOf}
@@ -34,7 +35,7 @@ use Rattle.checks.specs.Checks.{matchOf, numberFor}
 use Rattle.session.specs.declared.Session.{Session}
 use Rattle.session.specs.Session.{freshSession, unfit}
 use Rattle.session.specs.Step.{nextFor, judged}
-use Rattle.decoder.specs.Reading.{readOf}
+use Rattle.decoder.specs.Reading.{Handed, readOf}
 use Rattle.roundtrip.specs.Cut.{cutOf}
 use Rattle.verdict.specs.Verdict.{verdictOf}
 use Rattle.gate.specs.Offer.{barred, offerOf}
@@ -72,6 +73,15 @@ host bytes = record { from = Host; piece = bytes }
 unfoldable numbers : Both → List Call → List ℕ
 numbers x [] = []
 numbers x (c ∷ cs) = answerTo x c .number ∷ numbers (next x c) cs
+
+-- what the calls hand out: of each packet that passes kind, id and what stands behind its fields
+abbrev toldBy : Option Handed → List ℕ
+toldBy none = []
+toldBy (some h) = h .content .kind ∷ h .content .id ∷ h .content .rest
+
+unfoldable handed : Both → List Call → List ℕ
+handed x [] = []
+handed x (c ∷ cs) = toldBy (answerTo x c .handed) ++ handed (next x c) cs
 
 -- the bytes that a side's packet is put out as, of 64 bytes of room
 abbrev put : ℕ → Side → Content → List ℕ
@@ -126,15 +136,18 @@ rowNumber (At r) = r .0 ∷ []
 rowNumber Malformed = []
 
 unfoldable pub marked : List Example
-unfolding numbers
+unfolding numbers handed
 marked =
     record { name = "M1"; gives = put 0 Guest (getConfiguration 7); expected = 7 ∷ 0 ∷ 0 ∷ 0 ∷ 0 ∷ 0 ∷ 0 ∷ 0 ∷ 7 ∷ 0 ∷ 0 ∷ 0 ∷ [] }
     ∷ record { name = "M1, read"; gives = numbers (connected 0) (guest (put 0 Guest (getConfiguration 7)) ∷ []); expected = 0 ∷ [] }
+    ∷ record { name = "M1, handed out"; gives = handed (connected 0) (guest (put 0 Guest (getConfiguration 7)) ∷ []); expected = 7 ∷ 7 ∷ [] }
     ∷ record { name = "M2"; gives = put 32 Guest (getConfiguration 7); expected = 7 ∷ 0 ∷ 0 ∷ 0 ∷ 0 ∷ 0 ∷ 0 ∷ 0 ∷ 7 ∷ 0 ∷ 0 ∷ 0 ∷ 0 ∷ 0 ∷ 0 ∷ 0 ∷ [] }
     ∷ record { name = "M2, read"; gives = numbers (connected 32) (guest (put 32 Guest (getConfiguration 7)) ∷ []); expected = 0 ∷ [] }
+    ∷ record { name = "M2, handed out"; gives = handed (connected 32) (guest (put 32 Guest (getConfiguration 7)) ∷ []); expected = 7 ∷ 7 ∷ [] }
     ∷ record { name = "M3"; gives = put 0 Guest (bulkPacket 9 2 2 (170 ∷ 187 ∷ [])); expected = m3 }
     ∷ record { name = "M4"; gives = put 0 Host (bulkPacket 9 2 2 []); expected = m4 }
     ∷ record { name = "M3, M4, M5"; gives = numbers (connected 0) (guest m3 ∷ host m4 ∷ host m4 ∷ []); expected = 0 ∷ 0 ∷ 33 ∷ [] }
+    ∷ record { name = "M3, M4, M5, handed out"; gives = handed (connected 0) (guest m3 ∷ host m4 ∷ host m4 ∷ []); expected = 101 ∷ 9 ∷ 170 ∷ 187 ∷ 101 ∷ 9 ∷ [] }
     ∷ record { name = "M6"; gives = numbers (connected 0) (guest (headerSaying 32768) ∷ []); expected = 1 ∷ [] }
     ∷ record { name = "M7"; gives = numbers (connected 0) (guest (headerSaying 32769) ∷ []); expected = 10 ∷ [] }
     ∷ record { name = "M8"; gives = rowNumber (rowOf (record { 0 = 130 })); expected = 18 ∷ [] }
@@ -150,5 +163,5 @@ AsExpected [] = Unit {0}
 AsExpected (e ∷ es) = (e .gives ≡ e .expected) × AsExpected es
 
 pub as-marked : AsExpected marked
-unfolding marked numbers offerOf barred unfit verdictOf readOf cutOf shut output outputSize written writtenSize writeNumber packetNumber readNumber encode decode contentAt headerSize headerBytes headerNumber idWidth sharedSet wireNumber kindNumber bad layout kinds freshSession judged numberFor matchOf nextFor eventOf meaningOf meanings startRows startDevice replaced streamTo closed touched freshRequests lowest withPlace released idsDiffer distinct liveIds firstAt exists anyAt eachAt
-as-marked = (refl, (refl, (refl, (refl, (refl, (refl, (refl, (refl, (refl, (refl, (refl, (refl, (refl, (refl, tt))))))))))))))
+unfolding marked numbers handed offerOf barred unfit verdictOf readOf cutOf shut output outputSize written writtenSize writeNumber packetNumber readNumber encode decode contentAt headerSize headerBytes headerNumber idWidth sharedSet wireNumber kindNumber bad layout kinds freshSession judged numberFor matchOf nextFor eventOf meaningOf meanings startRows startDevice replaced streamTo closed touched freshRequests lowest withPlace released idsDiffer distinct liveIds firstAt exists anyAt eachAt
+as-marked = (refl, (refl, (refl, (refl, (refl, (refl, (refl, (refl, (refl, (refl, (refl, (refl, (refl, (refl, (refl, (refl, (refl, tt)))))))))))))))))
