@@ -1,9 +1,9 @@
 //! Cuts packets into reader calls.
 
 use plain::Side;
+use tools::Random;
 use Side::{Guest, Host};
 
-use crate::rng::Rng;
 use crate::script::{Call, Item, Line, Script};
 use crate::traffic::Sent;
 
@@ -24,7 +24,7 @@ pub enum Mode {
 const PATIENCE: usize = 30;
 
 struct Delivery<'a> {
-    rng: &'a mut Rng,
+    random: &'a mut Random,
     script: Script,
     line: Line,
     streams: [Vec<u8>; 2],
@@ -44,7 +44,7 @@ fn index(side: Side) -> usize {
 
 /// A script that carries these packets, made while the plain gate answers. `script` gives the
 /// buffers.
-pub fn deliver(rng: &mut Rng, packets: &[Sent], mode: Mode, script: Script) -> Script {
+pub fn deliver(random: &mut Random, packets: &[Sent], mode: Mode, script: Script) -> Script {
     let mut streams = [Vec::new(), Vec::new()];
     let mut order = Vec::new();
     for (side, bytes) in packets {
@@ -52,9 +52,9 @@ pub fn deliver(rng: &mut Rng, packets: &[Sent], mode: Mode, script: Script) -> S
         order.push((*side, streams[index(*side)].len()));
     }
     let line = Line::new(&script);
-    let fine = rng.percent(40);
+    let fine = random.percent(40);
     let mut delivery = Delivery {
-        rng,
+        random,
         script,
         line,
         streams,
@@ -92,16 +92,16 @@ impl Delivery<'_> {
 
     /// The size of a piece where `need` bytes end a packet and `rest` are there.
     fn cut(&mut self, need: usize, rest: usize) -> usize {
-        let size = match self.rng.below(10) {
-            _ if self.fine && need < 200 => self.rng.between(1, 6),
+        let size = match self.random.below(10) {
+            _ if self.fine && need < 200 => self.random.between(1, 6),
             0 => 1,
-            1 => self.rng.between(1, 16),
-            2 => self.rng.between(1, need),
+            1 => self.random.between(1, 16),
+            2 => self.random.between(1, need),
             3 => need.saturating_sub(1).max(1),
             4..=6 => need,
             7 => need + 1,
-            8 => need + self.rng.below(200),
-            _ => need + self.rng.below(4000),
+            8 => need + self.random.below(200),
+            _ => need + self.random.below(4000),
         };
         size.min(rest)
     }
@@ -112,9 +112,9 @@ impl Delivery<'_> {
                 if self.patience == 0 {
                     return;
                 }
-                match self.rng.below(100) {
+                match self.random.below(100) {
                     0..=2 => {
-                        let from = self.rng.pick(&[Guest, Host]);
+                        let from = self.random.pick(&[Guest, Host]);
                         self.next_bytes(from, 0);
                     }
                     3..=9 => self.early(side.other(), order),
@@ -123,15 +123,15 @@ impl Delivery<'_> {
                         let rest = self.streams[index(side)].len() - at;
                         let size = self.cut(end - at, rest);
                         let call = self.next_bytes(side, size);
-                        if drops && call.tells() && self.rng.percent(4) {
+                        if drops && call.tells() && self.random.percent(4) {
                             self.at[index(side)] += size - call.taken as usize;
                         }
                     }
                 }
             }
         }
-        while self.patience > PATIENCE / 2 && self.rng.percent(90) {
-            let from = self.rng.pick(&[Guest, Host]);
+        while self.patience > PATIENCE / 2 && self.random.percent(90) {
+            let from = self.random.pick(&[Guest, Host]);
             let rest = self.streams[index(from)].len() - self.at[index(from)];
             self.next_bytes(from, rest.min(3));
         }
@@ -142,7 +142,7 @@ impl Delivery<'_> {
         let at = self.at[index(from)];
         let next_end = order.iter().find(|(side, end)| *side == from && *end > at);
         if let Some((_, end)) = next_end {
-            let size = self.rng.below((end - at).min(40));
+            let size = self.random.below((end - at).min(40));
             self.next_bytes(from, size);
         }
     }
@@ -152,7 +152,7 @@ impl Delivery<'_> {
         while at < packets.len() && self.patience > 0 {
             let side = packets[at].0;
             let mut joined = Vec::new();
-            let most = self.rng.pick(&[1, 1, 2, 5, 20]);
+            let most = self.random.pick(&[1, 1, 2, 5, 20]);
             let same = packets[at..]
                 .iter()
                 .take(most)
@@ -163,10 +163,10 @@ impl Delivery<'_> {
             }
             let mut lines: &[u8] = &joined;
             while !lines.is_empty() {
-                let size = if self.rng.percent(50) {
+                let size = if self.random.percent(50) {
                     lines.len()
                 } else {
-                    self.rng.between(1, lines.len())
+                    self.random.between(1, lines.len())
                 };
                 let (piece, others) = lines.split_at(size.min(4096));
                 lines = others;
@@ -189,10 +189,10 @@ impl Delivery<'_> {
                 [0, 0] => return,
                 [_, 0] => Guest,
                 [0, _] => Host,
-                _ => self.rng.pick(&[Guest, Host]),
+                _ => self.random.pick(&[Guest, Host]),
             };
             let rest = rests[index(from)];
-            let near = self.rng.between(1, 300).min(rest);
+            let near = self.random.between(1, 300).min(rest);
             let size = self.cut(near, rest);
             self.next_bytes(from, size);
         }

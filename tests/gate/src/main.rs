@@ -1,26 +1,24 @@
 //! Compares the proved gate with the plain one, answer by answer.
 //!
-//! `gate_tests [SEED]`: fixed seeds are run, and the one given, or else one from the clock. The last
-//! line is `N passed, M failed`.
+//! Fixed seeds are run, and one more: the environment variable SEED, or else one from the clock. The
+//! last line is `N passed, M failed`.
 
 mod captures;
 mod damage;
 mod delivery;
 mod drive;
-mod rng;
 mod script;
 mod traffic;
 
 use std::collections::{BTreeMap, BTreeSet};
 use std::fs;
 use std::process::ExitCode;
-use std::time::{SystemTime, UNIX_EPOCH};
 
 use plain::{Side, HOLD_SIZE};
+use tools::Random;
 
 use delivery::{deliver, Mode};
 use drive::{by_drive, compare, RECORD};
-use rng::Rng;
 use script::{Item, Line, Script};
 use traffic::{plan, shared_sets, Sent, Style};
 
@@ -57,17 +55,7 @@ impl Tests {
 }
 
 fn main() -> ExitCode {
-    let seed = match std::env::args().nth(1).map(|text| text.parse()) {
-        Some(Ok(seed)) => seed,
-        Some(Err(_)) => {
-            eprintln!("usage: gate_tests [SEED]");
-            return ExitCode::FAILURE;
-        }
-        None => SystemTime::now()
-            .duration_since(UNIX_EPOCH)
-            .map_or(0, |time| time.as_nanos() as u64),
-    };
-    println!("seed {seed}");
+    let seed = tools::seed();
     let mut tests = Tests::default();
     tests.test("the ends of script and output", ends());
     for seed in FIXED_SEEDS.into_iter().chain([seed]) {
@@ -88,24 +76,24 @@ fn main() -> ExitCode {
 }
 
 /// The sizes of the two buffers: mostly just enough.
-fn buffer_size(rng: &mut Rng) -> usize {
-    match rng.below(80) {
+fn buffer_size(random: &mut Random) -> usize {
+    match random.below(80) {
         0 => HOLD_SIZE - 1,
-        1 => rng.below(HOLD_SIZE),
-        2..=20 => HOLD_SIZE + rng.below(3000),
+        1 => random.below(HOLD_SIZE),
+        2..=20 => HOLD_SIZE + random.below(3000),
         _ => HOLD_SIZE,
     }
 }
 
 /// Generated traffic through both, call by call, and the buffers after each script.
 fn differential(seed: u64, counts: &mut BTreeMap<u8, usize>) -> Result<String, String> {
-    let mut rng = Rng::new(seed);
+    let mut random = Random::new(seed);
     let sets = shared_sets();
     let mut seen = BTreeSet::new();
     let (mut packets, mut calls, mut scripts, mut prefixes) = (0, 0, 0, 0);
     while packets < PACKETS || scripts < 2 * sets.len() {
-        let style = Style::random(&mut rng, sets[scripts % sets.len()]);
-        let script = generated(&mut rng, &style);
+        let style = Style::random(&mut random, sets[scripts % sets.len()]);
+        let script = generated(&mut random, &style);
         let outcome = compare(&script).map_err(|wrong| format!("script {scripts}, {wrong}"))?;
         for call in &outcome.calls {
             *counts.entry(call.number).or_default() += 1;
@@ -138,22 +126,22 @@ fn differential(seed: u64, counts: &mut BTreeMap<u8, usize>) -> Result<String, S
     ))
 }
 
-fn generated(rng: &mut Rng, style: &Style) -> Script {
+fn generated(random: &mut Random, style: &Style) -> Script {
     let script = Script {
-        guest_size: buffer_size(rng),
-        host_size: buffer_size(rng),
-        fill: rng.next(),
+        guest_size: buffer_size(random),
+        host_size: buffer_size(random),
+        fill: random.next(),
         items: Vec::new(),
     };
-    let mut packets = plan(rng, style);
-    if rng.percent(3) {
+    let mut packets = plan(random, style);
+    if random.percent(3) {
         // Bytes that mean nothing, with or without hellos before them.
-        packets.truncate(rng.below(4));
-        let mut noise = vec![0; rng.between(1, 400)];
-        rng.fill(&mut noise);
-        packets.push((rng.pick(&[Side::Guest, Side::Host]), noise));
+        packets.truncate(random.below(4));
+        let size = random.between(1, 400);
+        let noise = random.bytes(size);
+        packets.push((random.pick(&[Side::Guest, Side::Host]), noise));
     }
-    let mode = rng.pick(&[
+    let mode = random.pick(&[
         Mode::Ordered,
         Mode::Ordered,
         Mode::Ordered,
@@ -162,7 +150,7 @@ fn generated(rng: &mut Rng, style: &Style) -> Script {
         Mode::Report,
         Mode::Loose,
     ]);
-    deliver(rng, &packets, mode, script)
+    deliver(random, &packets, mode, script)
 }
 
 /// Prints how often each number was given.
@@ -196,24 +184,24 @@ fn all_occur(counts: &BTreeMap<u8, usize>) -> Result<String, String> {
 /// The same packets, made whole in the same order, cut in two ways: the same answers other than
 /// 1, 2 and 3.
 fn cuts(seed: u64) -> Result<String, String> {
-    let mut rng = Rng::new(seed ^ 0x6375_7473);
+    let mut random = Random::new(seed ^ 0x6375_7473);
     let sets = shared_sets();
     let mut packets = 0;
     for round in 0..CUTS {
-        let mut style = Style::random(&mut rng, sets[round % sets.len()]);
+        let mut style = Style::random(&mut random, sets[round % sets.len()]);
         style.packets = style.packets.min(120);
-        let planned = plan(&mut rng, &style);
+        let planned = plan(&mut random, &style);
         let fresh = Script {
             guest_size: HOLD_SIZE,
             host_size: HOLD_SIZE,
-            fill: rng.next(),
+            fill: random.next(),
             items: Vec::new(),
         };
-        let first = deliver(&mut rng, &planned, Mode::Ordered, fresh.clone());
+        let first = deliver(&mut random, &planned, Mode::Ordered, fresh.clone());
         // What became whole, and in which order.
         let events = events(&first);
-        let cut_one = deliver(&mut rng, &events, Mode::Ordered, fresh.clone());
-        let cut_two = deliver(&mut rng, &events, Mode::Ordered, fresh);
+        let cut_one = deliver(&mut random, &events, Mode::Ordered, fresh.clone());
+        let cut_two = deliver(&mut random, &events, Mode::Ordered, fresh);
         for cut in [&first, &cut_one, &cut_two] {
             compare(cut).map_err(|wrong| format!("round {round}, {wrong}"))?;
         }

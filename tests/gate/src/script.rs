@@ -2,8 +2,7 @@
 
 use library::record_of;
 use plain::{offer, Session, Side};
-
-use crate::rng::Rng;
+use tools::Random;
 
 /// One reader call.
 #[derive(Clone)]
@@ -60,12 +59,8 @@ impl Script {
 
     /// The buffers as they are before the first call.
     pub fn buffers(&self) -> (Vec<u8>, Vec<u8>) {
-        let mut rng = Rng::new(self.fill);
-        let mut guest = vec![0; self.guest_size];
-        let mut host = vec![0; self.host_size];
-        rng.fill(&mut guest);
-        rng.fill(&mut host);
-        (guest, host)
+        let mut random = Random::new(self.fill);
+        (random.bytes(self.guest_size), random.bytes(self.host_size))
     }
 
     pub fn by_plain(&self) -> Outcome {

@@ -4,9 +4,9 @@
 use std::collections::VecDeque;
 
 use plain::{Request, Session, Side, HOLD_SIZE, LENGTH_LIMIT};
+use tools::Random;
 use Side::{Guest, Host};
 
-use crate::rng::Rng;
 use crate::script::{Line, Script};
 
 /// A packet and its sender.
@@ -38,22 +38,22 @@ pub struct Style {
 }
 
 impl Style {
-    pub fn random(rng: &mut Rng, shared: u32) -> Style {
-        let (guest_word, host_word) = words(rng, shared);
-        let flood = rng.percent(10);
+    pub fn random(random: &mut Random, shared: u32) -> Style {
+        let (guest_word, host_word) = words(random, shared);
+        let flood = random.percent(10);
         Style {
             guest_word,
             host_word,
             packets: if flood {
                 300
             } else {
-                rng.pick(&[5, 20, 60, 120, 250])
+                random.pick(&[5, 20, 60, 120, 250])
             },
-            damage: rng.pick(&[0, 5, 5, 15, 40]),
-            stops: rng.percent(30),
-            guest_turns: if flood { 80 } else { rng.between(40, 60) },
+            damage: random.pick(&[0, 5, 5, 15, 40]),
+            stops: random.percent(30),
+            guest_turns: if flood { 80 } else { random.between(40, 60) },
             flood,
-            big: rng.pick(&[0, 0, 1, 4]),
+            big: random.pick(&[0, 0, 1, 4]),
         }
     }
 }
@@ -66,26 +66,26 @@ pub fn shared_sets() -> Vec<u32> {
 }
 
 /// Two words that 13 lets pass and that have just these bits of 0 to 7 in common.
-fn words(rng: &mut Rng, shared: u32) -> (u32, u32) {
+fn words(random: &mut Random, shared: u32) -> (u32, u32) {
     let mut words = [shared, shared];
     for bit in 0..8 {
-        if shared >> bit & 1 == 0 && rng.percent(50) {
-            words[rng.below(2)] |= 1 << bit;
+        if shared >> bit & 1 == 0 && random.percent(50) {
+            words[random.below(2)] |= 1 << bit;
         }
     }
     for word in &mut words {
         if *word & 17 == 1 {
             *word &= !1;
         }
-        if rng.percent(30) {
-            *word |= (rng.next() as u32) << 8;
+        if random.percent(30) {
+            *word |= random.word() << 8;
         }
     }
     (words[0], words[1])
 }
 
 /// Packets in their order.
-pub fn plan(rng: &mut Rng, style: &Style) -> Vec<Sent> {
+pub fn plan(random: &mut Random, style: &Style) -> Vec<Sent> {
     let script = Script {
         guest_size: HOLD_SIZE,
         host_size: HOLD_SIZE,
@@ -93,9 +93,9 @@ pub fn plan(rng: &mut Rng, style: &Style) -> Vec<Sent> {
         items: Vec::new(),
     };
     let mut planner = Planner {
-        next_id: rng.near_power(),
+        next_id: random.near_power(),
         model: Line::new(&script),
-        rng,
+        random,
         style,
         queue: VecDeque::new(),
         types: [INVALID; 32],
@@ -108,7 +108,7 @@ pub fn plan(rng: &mut Rng, style: &Style) -> Vec<Sent> {
         let (side, bytes) = planner.maybe_damaged(sent);
         planner.feed(side, &bytes);
         packets.push((side, bytes));
-        if planner.model.session.is_stopped() && planner.rng.percent(30) {
+        if planner.model.session.is_stopped() && planner.random.percent(30) {
             break;
         }
     }
@@ -116,7 +116,7 @@ pub fn plan(rng: &mut Rng, style: &Style) -> Vec<Sent> {
 }
 
 pub struct Planner<'a> {
-    pub rng: &'a mut Rng,
+    pub random: &'a mut Random,
     pub style: &'a Style,
     model: Line,
     pub next_id: u64,
@@ -174,17 +174,17 @@ impl Planner<'_> {
             .filter(|side| !self.session().hello_passed(*side))
             .collect();
         if !missing.is_empty() {
-            let side = self.rng.pick(&missing);
+            let side = self.random.pick(&missing);
             return (side, self.hello(side));
         }
         if self.session().ack_owed() {
-            match self.rng.below(10) {
+            match self.random.below(10) {
                 0..=6 => return (Guest, self.frame(24, 0, &[])),
                 7 => return (Host, self.introduction()),
                 _ => {}
             }
         }
-        if !self.session().device_present() && self.rng.percent(80) {
+        if !self.session().device_present() && self.random.percent(80) {
             return (Host, self.introduction());
         }
         if self.style.flood {
@@ -194,10 +194,10 @@ impl Planner<'_> {
             .session()
             .live_requests()
             .find(|request| matches!(request.kind, 6 | 9));
-        if let Some(request) = settling.filter(|_| self.rng.percent(25)) {
+        if let Some(request) = settling.filter(|_| self.random.percent(25)) {
             return (Host, self.reply_to(request));
         }
-        if self.rng.percent(self.style.guest_turns) {
+        if self.random.percent(self.style.guest_turns) {
             (Guest, self.guest_packet())
         } else {
             (Host, self.host_packet())
@@ -211,8 +211,10 @@ impl Planner<'_> {
         } else {
             self.style.guest_turns
         };
-        if self.rng.percent(guest) {
-            let kind = self.rng.pick(&[7, 10, 12, 13, 15, 100, 100, 101, 101, 103]);
+        if self.random.percent(guest) {
+            let kind = self
+                .random
+                .pick(&[7, 10, 12, 13, 15, 100, 100, 101, 101, 103]);
             return (Guest, self.guest_kind(kind));
         }
         (Host, self.reply())
@@ -224,22 +226,22 @@ impl Planner<'_> {
             Host => self.style.host_word,
         };
         let mut version = [0; 64];
-        let text = self.rng.below(64);
-        self.rng.fill(&mut version[..text]);
+        let text = self.random.below(64);
+        self.random.fill(&mut version[..text]);
         let mut words = vec![first];
-        for _ in 0..self.rng.pick(&[0, 0, 0, 1, 7]) {
-            words.push(self.rng.next() as u32);
+        for _ in 0..self.random.pick(&[0, 0, 0, 1, 7]) {
+            words.push(self.random.word());
         }
-        if first == 0 && self.rng.percent(50) {
+        if first == 0 && self.random.percent(50) {
             words.clear();
         }
         let mut id = 0;
         if self.style.stops {
-            match self.rng.below(30) {
+            match self.random.below(30) {
                 0 => words = vec![first & !16 | 1],
                 1 => words = vec![0; 9],
                 2 => version.fill(1),
-                3 => id = self.rng.near_power(),
+                3 => id = self.random.near_power(),
                 4 => return self.frame(7, 7, &[]),
                 _ => {}
             }
@@ -248,16 +250,16 @@ impl Planner<'_> {
         for word in words {
             body.extend(word.to_le_bytes());
         }
-        if self.style.stops && self.rng.percent(5) {
+        if self.style.stops && self.random.percent(5) {
             let sizes = [0, 60, 62, 63, 65, 66, 67, 70, 94, 95, 97, 98, 100, 104];
-            body.resize(self.rng.pick(&sizes), 0);
+            body.resize(self.random.pick(&sizes), 0);
         }
         self.frame(0, id, &body)
     }
 
     /// Puts tables and connect into the queue, mostly in their order; the first is the answer.
     fn introduction(&mut self) -> Vec<u8> {
-        if self.rng.percent(30) {
+        if self.random.percent(30) {
             self.new_table();
         }
         let mut packets = vec![
@@ -265,7 +267,7 @@ impl Planner<'_> {
             self.interface_table(),
             self.connect(),
         ];
-        match self.rng.below(12) {
+        match self.random.below(12) {
             0 => packets.swap(0, 1),
             1 => packets.swap(1, 2),
             2 => packets.insert(2, packets[0].clone()),
@@ -283,9 +285,9 @@ impl Planner<'_> {
     fn new_table(&mut self) {
         for row in (1..16).chain(17..32) {
             self.types[row] = self
-                .rng
+                .random
                 .pick(&[ISO, BULK, BULK, INTERRUPT, INVALID, CONTROL]);
-            self.interfaces[row] = self.rng.below(3) as u8;
+            self.interfaces[row] = self.random.below(3) as u8;
         }
         self.types[0] = CONTROL;
         self.types[16] = CONTROL;
@@ -305,13 +307,13 @@ impl Planner<'_> {
     }
 
     fn interface_table(&mut self) -> Vec<u8> {
-        let mut body = (self.rng.below(33) as u32).to_le_bytes().to_vec();
-        body.resize(132, self.rng.byte());
+        let mut body = (self.random.below(33) as u32).to_le_bytes().to_vec();
+        body.resize(132, self.random.byte());
         self.frame(4, 0, &body)
     }
 
     fn connect(&mut self) -> Vec<u8> {
-        let mut body = vec![self.rng.pick(&[0, 1, 2, 3, 255]), 0, 0, 0, 0x5e, 4, 1, 2];
+        let mut body = vec![self.random.pick(&[0, 1, 2, 3, 255]), 0, 0, 0, 0x5e, 4, 1, 2];
         if self.has(1) {
             body.extend([3, 1]);
         }
@@ -319,26 +321,26 @@ impl Planner<'_> {
     }
 
     fn host_packet(&mut self) -> Vec<u8> {
-        match self.rng.below(100) {
+        match self.random.below(100) {
             0..=54 => self.reply(),
             55..=79 => self.stream_data(),
             80..=84 => {
-                for _ in 0..self.rng.below(3) {
-                    let row = self.rng.pick(&[1, 2, 3, 17, 18, 19]);
-                    self.types[row] = self.rng.pick(&[ISO, BULK, INTERRUPT, INVALID]);
-                    self.interfaces[row] = self.rng.below(3) as u8;
+                for _ in 0..self.random.below(3) {
+                    let row = self.random.pick(&[1, 2, 3, 17, 18, 19]);
+                    self.types[row] = self.random.pick(&[ISO, BULK, INTERRUPT, INVALID]);
+                    self.interfaces[row] = self.random.below(3) as u8;
                 }
                 self.endpoint_table()
             }
             85 | 86 => self.interface_table(),
             87 => self.connect(),
-            88 if self.rng.percent(60) => self.frame(2, 0, &[]),
+            88 if self.random.percent(60) => self.frame(2, 0, &[]),
             89..=93 => self.unsolicited(),
             94 | 95 => self.filter(),
             96 => {
-                let kind = self.rng.pick(&[8, 11, 14, 17, 20, 27, 100, 101, 103]);
+                let kind = self.random.pick(&[8, 11, 14, 17, 20, 27, 100, 101, 103]);
                 let request = Request {
-                    id: self.rng.below(100) as u64,
+                    id: self.random.below(100) as u64,
                     kind: match kind {
                         8 => 6,
                         11 => 9,
@@ -348,7 +350,7 @@ impl Planner<'_> {
                         27 => 25,
                         _ => kind,
                     },
-                    target: endpoint_of(self.rng.below(32)),
+                    target: endpoint_of(self.random.below(32)),
                     length: 8,
                 };
                 self.reply_to(request)
@@ -359,13 +361,13 @@ impl Planner<'_> {
 
     /// A status with id 0 and mostly 4, which no request may have asked for.
     fn unsolicited(&mut self) -> Vec<u8> {
-        let row = self.rng.between(1, 31);
-        let status = if self.rng.percent(85) {
+        let row = self.random.between(1, 31);
+        let status = if self.random.percent(85) {
             4
         } else {
-            self.rng.below(7) as u8
+            self.random.below(7) as u8
         };
-        match self.rng.below(if self.has(7) { 3 } else { 2 }) {
+        match self.random.below(if self.has(7) { 3 } else { 2 }) {
             0 => self.frame(14, 0, &[status, endpoint_of(row)]),
             1 => self.frame(17, 0, &[status, endpoint_of(row)]),
             _ => self.frame(27, 0, &[0, 0, 0, 0, endpoint_of(row | 16), status]),
@@ -377,24 +379,24 @@ impl Planner<'_> {
         let open: Vec<usize> = (16..32)
             .filter(|row| self.session().stream_open(*row))
             .collect();
-        let row = if open.is_empty() || self.rng.percent(10) {
-            self.rng.between(16, 31)
+        let row = if open.is_empty() || self.random.percent(10) {
+            self.random.between(16, 31)
         } else {
-            self.rng.pick(&open)
+            self.random.pick(&open)
         };
         let kind = match self.session().row_type(row) {
-            _ if self.rng.percent(3) => self.rng.pick(&[102, 103, 104]),
+            _ if self.random.percent(3) => self.random.pick(&[102, 103, 104]),
             ISO => 102,
             BULK => 104,
             _ => 103,
         };
-        let id = self.rng.near_power();
-        let status = self.rng.below(7) as u8;
+        let id = self.random.near_power();
+        let status = self.random.below(7) as u8;
         let fixed = if kind == 104 { 10 } else { 4 };
         let data = self.data(LENGTH_LIMIT as usize - fixed);
         let mut body = Vec::new();
         if kind == 104 {
-            body.extend((self.rng.below(3) as u32).to_le_bytes());
+            body.extend((self.random.below(3) as u32).to_le_bytes());
             body.extend((data.len() as u32).to_le_bytes());
             body.extend([endpoint_of(row), status]);
         } else {
@@ -410,17 +412,17 @@ impl Planner<'_> {
         if live.is_empty() {
             return self.stream_data();
         }
-        let request = self.rng.pick(&live);
+        let request = self.random.pick(&live);
         self.reply_to(request)
     }
 
     fn reply_to(&mut self, request: Request) -> Vec<u8> {
-        let status = if self.rng.percent(75) {
+        let status = if self.random.percent(75) {
             0
         } else {
-            self.rng.below(7) as u8
+            self.random.below(7) as u8
         };
-        let byte = self.rng.byte();
+        let byte = self.random.byte();
         let target = request.target;
         let (kind, body) = match request.kind {
             6 | 7 => (8, vec![status, byte]),
@@ -432,8 +434,8 @@ impl Planner<'_> {
             kind => (u32::from(kind), self.data_reply(request, status)),
         };
         // A new configuration or setting comes with its tables.
-        if matches!(kind, 8 | 11) && status == 0 && self.rng.percent(40) {
-            if self.rng.percent(50) {
+        if matches!(kind, 8 | 11) && status == 0 && self.random.percent(40) {
+            if self.random.percent(50) {
                 self.new_table();
             }
             let status = self.frame(kind, request.id, &body);
@@ -448,22 +450,21 @@ impl Planner<'_> {
         let is_in = request.target & 0x80 != 0;
         let fixed = self.fixed(u32::from(request.kind));
         let mut most = request.length as usize;
-        if self.rng.percent(4) {
+        if self.random.percent(4) {
             most += 1;
         }
-        let mut length = if self.rng.percent(30) {
+        let mut length = if self.random.percent(30) {
             most
         } else {
-            self.rng.below(most + 1)
+            self.random.below(most + 1)
         };
         let mut data = Vec::new();
         if is_in {
             length = length.min(LENGTH_LIMIT as usize - fixed);
-            if length > 600 && !self.rng.percent(self.style.big) {
+            if length > 600 && !self.random.percent(self.style.big) {
                 length = 600;
             }
-            data.resize(length, 0);
-            self.rng.fill(&mut data);
+            data = self.random.bytes(length);
         }
         self.data_body(
             u32::from(request.kind),
@@ -477,7 +478,7 @@ impl Planner<'_> {
     // ---- packets of the guest ----
 
     fn guest_packet(&mut self) -> Vec<u8> {
-        let kind = match self.rng.below(100) {
+        let kind = match self.random.below(100) {
             0..=23 => 100,
             24..=45 => 101,
             46..=53 => 103,
@@ -495,7 +496,7 @@ impl Planner<'_> {
             87 | 88 => 7,
             89..=91 => 10,
             92..=94 => 21,
-            95 if self.rng.percent(20) => 3,
+            95 if self.random.percent(20) => 3,
             96 => 22,
             97 => 23,
             98 => 24,
@@ -508,22 +509,22 @@ impl Planner<'_> {
         let id = self.request_id();
         match kind {
             3 | 21 => {
-                let id = self.rng.near_power();
+                let id = self.random.near_power();
                 self.frame(kind, id, &[])
             }
             22 | 24 => self.frame(kind, 0, &[]),
             23 => self.filter(),
             6 => {
-                let byte = self.rng.byte();
+                let byte = self.random.byte();
                 self.frame(6, id, &[byte])
             }
             7 => self.frame(7, id, &[]),
             9 => {
-                let interface = self.rng.below(3) as u8;
+                let interface = self.random.below(3) as u8;
                 self.frame(9, id, &[interface, 1])
             }
             10 => {
-                let interface = self.rng.byte();
+                let interface = self.random.byte();
                 self.frame(10, id, &[interface])
             }
             12 | 13 => {
@@ -537,7 +538,7 @@ impl Planner<'_> {
             }
             18 | 19 => {
                 let mut mask = 0u32;
-                for _ in 0..self.rng.between(1, 3) {
+                for _ in 0..self.random.between(1, 3) {
                     let endpoint = self.endpoint(BULK, None);
                     mask |= 1 << (endpoint & 15 | endpoint >> 7 << 4);
                 }
@@ -549,7 +550,7 @@ impl Planner<'_> {
             }
             25 | 26 => {
                 let endpoint = self.endpoint(BULK, Some(true));
-                let mut body = (self.rng.below(3) as u32).to_le_bytes().to_vec();
+                let mut body = (self.random.below(3) as u32).to_le_bytes().to_vec();
                 if kind == 25 {
                     body.extend([0, 2, 0, 0, endpoint, 4]);
                 } else {
@@ -561,15 +562,15 @@ impl Planner<'_> {
                 let open: Vec<usize> = (1..16)
                     .filter(|row| self.session().stream_open(*row))
                     .collect();
-                let endpoint = if open.is_empty() || self.rng.percent(10) {
+                let endpoint = if open.is_empty() || self.random.percent(10) {
                     self.endpoint(ISO, Some(false))
                 } else {
-                    endpoint_of(self.rng.pick(&open))
+                    endpoint_of(self.random.pick(&open))
                 };
                 let data = self.data(LENGTH_LIMIT as usize - 4);
-                let status = self.rng.byte();
+                let status = self.random.byte();
                 let body = self.data_body(102, endpoint, status, data.len() as u32, &data);
-                let id = self.rng.near_power();
+                let id = self.random.near_power();
                 self.frame(102, id, &body)
             }
             _ => {
@@ -580,14 +581,14 @@ impl Planner<'_> {
                 };
                 let fixed = self.fixed(kind);
                 let (length, data) = if endpoint & 0x80 != 0 {
-                    let asked = self.rng.near_power() as u32;
+                    let asked = self.random.near_power() as u32;
                     let wide = kind == 101 && self.has(6);
                     (if wide { asked } else { asked & 0xffff }, Vec::new())
                 } else {
                     let data = self.data(LENGTH_LIMIT as usize - fixed);
                     (data.len() as u32, data)
                 };
-                let status = self.rng.byte();
+                let status = self.random.byte();
                 let body = self.data_body(kind, endpoint, status, length, &data);
                 self.frame(kind, id, &body)
             }
@@ -604,14 +605,14 @@ impl Planner<'_> {
         if live.is_empty() {
             0
         } else {
-            self.rng.pick(&live)
+            self.random.pick(&live)
         }
     }
 
     /// Mostly an id that no live request has.
     fn request_id(&mut self) -> u64 {
-        match self.rng.below(100) {
-            0..=2 => self.rng.below(4) as u64,
+        match self.random.below(100) {
+            0..=2 => self.random.below(4) as u64,
             3 | 4 => self.live_id(),
             _ => {
                 self.next_id = self.next_id.wrapping_add(1);
@@ -626,18 +627,18 @@ impl Planner<'_> {
             .filter(|row| self.session().row_type(*row) == wanted)
             .filter(|row| is_in.map_or(true, |is_in| is_in == (*row >= 16)))
             .collect();
-        if rows.is_empty() || self.rng.percent(3) {
-            let row = self.rng.below(16) | usize::from(is_in == Some(true)) << 4;
+        if rows.is_empty() || self.random.percent(3) {
+            let row = self.random.below(16) | usize::from(is_in == Some(true)) << 4;
             endpoint_of(row)
         } else {
-            endpoint_of(self.rng.pick(&rows))
+            endpoint_of(self.random.pick(&rows))
         }
     }
 
     // ---- parts of packets ----
 
     fn filter(&mut self) -> Vec<u8> {
-        let mut text = vec![b'1'; self.rng.below(40)];
+        let mut text = vec![b'1'; self.random.below(40)];
         text.push(0);
         self.frame(23, 0, &text)
     }
@@ -676,7 +677,7 @@ impl Planner<'_> {
             ],
             101 => {
                 let stream = if self.has(0) {
-                    self.rng.below(3) as u8
+                    self.random.below(3) as u8
                 } else {
                     0
                 };
@@ -694,22 +695,20 @@ impl Planner<'_> {
 
     /// Data of at most `most` bytes, or one more where the session may stop.
     fn data(&mut self, most: usize) -> Vec<u8> {
-        let size = if self.rng.percent(self.style.big) {
-            match self.rng.below(4) {
+        let size = if self.random.percent(self.style.big) {
+            match self.random.below(4) {
                 0 => most,
                 1 => most - 1,
                 2 if self.style.stops => most + 1,
-                _ => (1usize << self.rng.between(8, 15)).min(most) - self.rng.below(2),
+                _ => (1usize << self.random.between(8, 15)).min(most) - self.random.below(2),
             }
         } else {
-            match self.rng.below(10) {
+            match self.random.below(10) {
                 0 => 0,
-                1 => self.rng.between(17, 600),
-                _ => self.rng.between(1, 16),
+                1 => self.random.between(17, 600),
+                _ => self.random.between(1, 16),
             }
         };
-        let mut data = vec![0; size];
-        self.rng.fill(&mut data);
-        data
+        self.random.bytes(size)
     }
 }

@@ -2,9 +2,10 @@
 
 use std::collections::BTreeMap;
 
+use tools::Random;
+
 use crate::generate::Traffic;
 use crate::oracle::wire::{self, Side};
-use crate::random::Random;
 use crate::report::{ensure, Report};
 use crate::script::{library_numbers, Script};
 use Side::{Guest, Host};

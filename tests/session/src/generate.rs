@@ -1,13 +1,14 @@
 //! Sessions made up from random numbers. The oracle's session tells what would be likely next; most packets are that, some
 //! are wrong in one place, some are damaged.
 
+use tools::Random;
+
 use crate::oracle::session::{Ask, Introduction, Request, Session};
 use crate::oracle::wire::{
     self, is_in, row, Flow, Side, BULK, BULK_LENGTH_OF_32_BITS, BULK_RECEIVING, BULK_STREAMS,
     CONTROL, INTERRUPT, INVALID, ISO, MAX_PACKET_SIZE,
 };
 use crate::packets::{self, Packet, Rows};
-use crate::random::Random;
 use Side::{Guest, Host};
 
 /// First words of hellos that make a difference.

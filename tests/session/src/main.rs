@@ -11,7 +11,6 @@ mod hex;
 mod library;
 mod oracle;
 mod packets;
-mod random;
 mod report;
 mod scenarios;
 mod script;
@@ -19,13 +18,11 @@ mod script;
 use std::env;
 use std::path::Path;
 use std::process::ExitCode;
-use std::time::{SystemTime, UNIX_EPOCH};
 
 use report::Report;
 
 fn main() -> ExitCode {
-    let seed = seed();
-    println!("seed {seed}");
+    let seed = tools::seed();
     let mut report = Report::default();
     report.open("scenarios");
     scenarios::run(&mut report);
@@ -45,15 +42,5 @@ fn main() -> ExitCode {
         ExitCode::SUCCESS
     } else {
         ExitCode::FAILURE
-    }
-}
-
-fn seed() -> u64 {
-    match env::var("SEED") {
-        Ok(text) => text.parse().expect("SEED is a number"),
-        Err(_) => match SystemTime::now().duration_since(UNIX_EPOCH) {
-            Ok(time) => time.as_nanos() as u64,
-            Err(_) => 1,
-        },
     }
 }

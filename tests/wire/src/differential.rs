@@ -2,11 +2,12 @@
 
 use std::collections::BTreeSet;
 
+use tools::Random;
+
 use crate::capture::Captured;
 use crate::compare;
 use crate::generate;
 use crate::oracle::{self, Kind, Link, KINDS};
-use crate::random::Random;
 use crate::report::{ensure, Report};
 
 const BATCHES: usize = 400;

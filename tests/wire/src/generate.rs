@@ -1,7 +1,8 @@
 //! Packets made from random values, and damage done to packets.
 
+use tools::Random;
+
 use crate::oracle::{self, Field, Link, Packet, Sender, Shape, Value, KINDS};
-use crate::random::Random;
 
 // -- links --------------------------------------------------------------------------------------------------------------
 
@@ -28,7 +29,7 @@ const WORDS: [u32; 17] = [
 
 fn word(random: &mut Random) -> u32 {
     match random.below(4) {
-        0 => random.next() as u32,
+        0 => random.word(),
         1 => u32::from(random.byte()),
         _ => random.pick(&WORDS),
     }
@@ -374,14 +375,14 @@ fn set_at(bytes: &mut [u8], at: usize, number: u32) {
 
 fn change_kind(random: &mut Random, bytes: &mut [u8]) {
     let near = random.below(130) as u32;
-    let any = random.next() as u32;
+    let any = random.word();
     let kind = random.pick(&[near, near, near, 28, 99, 105, 256 + near, any]);
     set_at(bytes, 0, kind);
 }
 
 fn change_length(random: &mut Random, bytes: &mut [u8]) {
     let near = random.below(300) as u32;
-    let any = random.next() as u32;
+    let any = random.word();
     let length = random.pick(&[near, any, 32_768, 32_769, 65_536, 0x8000_0000, u32::MAX]);
     set_at(bytes, 4, length);
 }

@@ -12,20 +12,17 @@ mod hex;
 mod json;
 mod library;
 mod oracle;
-mod random;
 mod report;
 mod writer;
 
 use std::env;
 use std::path::PathBuf;
 use std::process::ExitCode;
-use std::time::{SystemTime, UNIX_EPOCH};
 
 use report::Report;
 
 fn main() -> ExitCode {
-    let seed = seed();
-    println!("seed {seed}");
+    let seed = tools::seed();
     let mut report = Report::default();
     let captured = capture::run(&directory(), &mut report);
     examples::run(&mut report);
@@ -42,15 +39,5 @@ fn directory() -> PathBuf {
     match env::args_os().nth(1) {
         Some(directory) => PathBuf::from(directory),
         None => PathBuf::from(env!("CARGO_MANIFEST_DIR")).join("captures"),
-    }
-}
-
-fn seed() -> u64 {
-    match env::var("SEED") {
-        Ok(text) => text.parse().expect("SEED is a number"),
-        Err(_) => match SystemTime::now().duration_since(UNIX_EPOCH) {
-            Ok(time) => time.as_nanos() as u64,
-            Err(_) => 1,
-        },
     }
 }
