@@ -14,6 +14,7 @@ use std::time::{Duration, Instant};
 
 use library::RECORD;
 use plain::HOLD_SIZE;
+use tools::{ensure, Report};
 
 use judges::{by_gate, by_plain, script_of, Script};
 use traffic::{bulk_transfers, capture, interrupts, Traffic};
@@ -28,19 +29,14 @@ fn main() -> ExitCode {
         .map(|text| text.parse().expect("bench [DIVISOR [INDEX]]"));
     let divisor: usize = numbers.next().unwrap_or(1);
     let only = numbers.next();
-    let (mut passed, mut failed) = (0, 0);
+    let mut report = Report::default();
     for at in only.unwrap_or(0)..only.map_or(usize::MAX, |index| index + 1) {
         let Some(traffic) = traffic(at, divisor) else {
             break;
         };
-        if measure(&traffic) {
-            passed += 1;
-        } else {
-            failed += 1;
-        }
+        report.case(&traffic.name, measure(&traffic));
     }
-    println!("{passed} passed, {failed} failed");
-    ExitCode::from(u8::from(failed > 0))
+    report.finish()
 }
 
 /// The traffic to measure, one at a time: the longest has some hundred megabytes.
@@ -60,8 +56,8 @@ fn traffic(at: usize, divisor: usize) -> Option<Traffic> {
     })
 }
 
-/// Times all judges on one traffic; whether the two gates agree.
-fn measure(traffic: &Traffic) -> bool {
+/// Times all judges on one traffic; passes where the two gates agree.
+fn measure(traffic: &Traffic) -> Result<(), String> {
     let script = script_of(traffic);
     let bytes: usize = traffic.pieces.iter().map(|piece| piece.bytes.len()).sum();
     println!(
@@ -114,9 +110,5 @@ fn measure(traffic: &Traffic) -> bool {
         line("libusbredirparser", best);
         println!("  libusbredirparser hands out {handed} packets");
     }
-    let same = told[0] == told[1];
-    if !same {
-        println!("  the two gates differ");
-    }
-    same
+    ensure(told[0] == told[1], || "the two gates differ".to_string())
 }

@@ -15,7 +15,7 @@ use std::fs;
 use std::process::ExitCode;
 
 use plain::{Side, HOLD_SIZE};
-use tools::Random;
+use tools::{Random, Report};
 
 use delivery::{deliver, Mode};
 use drive::{by_drive, compare, RECORD};
@@ -32,47 +32,34 @@ const NUMBERS: [u8; 24] = [
     0, 1, 2, 3, 10, 11, 12, 13, 20, 21, 22, 23, 24, 25, 26, 27, 28, 29, 30, 31, 32, 33, 34, 41,
 ];
 
-#[derive(Default)]
-struct Tests {
-    passed: usize,
-    failed: usize,
-}
-
-impl Tests {
-    /// Counts a test and prints its line: what it did, or what went wrong.
-    fn test(&mut self, name: &str, result: Result<String, String>) {
-        match result {
-            Ok(told) => {
-                self.passed += 1;
-                println!("ok      {name}: {told}");
-            }
-            Err(wrong) => {
-                self.failed += 1;
-                println!("FAILED  {name}: {wrong}");
-            }
-        }
+/// Counts a test; where it passes, prints what it did.
+fn test(report: &mut Report, name: &str, outcome: Result<String, String>) {
+    if let Ok(told) = &outcome {
+        println!("ok      {name}: {told}");
     }
+    report.case(name, outcome.map(drop));
 }
 
 fn main() -> ExitCode {
     let seed = tools::seed();
-    let mut tests = Tests::default();
-    tests.test("the ends of script and output", ends());
+    let mut report = Report::default();
+    test(&mut report, "the ends of script and output", ends());
     for seed in FIXED_SEEDS.into_iter().chain([seed]) {
         let mut counts = BTreeMap::new();
-        tests.test(
+        test(
+            &mut report,
             &format!("differential, seed {seed}"),
             differential(seed, &mut counts),
         );
-        tests.test(
+        test(
+            &mut report,
             &format!("every number occurs, seed {seed}"),
             all_occur(&counts),
         );
-        tests.test(&format!("cuts, seed {seed}"), cuts(seed));
+        test(&mut report, &format!("cuts, seed {seed}"), cuts(seed));
     }
-    capture_tests(&mut tests);
-    println!("{} passed, {} failed", tests.passed, tests.failed);
-    ExitCode::from(u8::from(tests.failed > 0))
+    capture_tests(&mut report);
+    report.finish()
 }
 
 /// The sizes of the two buffers: mostly just enough.
@@ -318,7 +305,7 @@ fn ends() -> Result<String, String> {
 }
 
 /// Each capture through both, and its totals against those that are stored.
-fn capture_tests(tests: &mut Tests) {
+fn capture_tests(report: &mut Report) {
     let path = captures::directory().join("totals.txt");
     let stored = fs::read_to_string(&path).unwrap_or_default();
     let files = captures::files();
@@ -338,7 +325,7 @@ fn capture_tests(tests: &mut Tests) {
                 Err(format!("not the stored totals: {totals}"))
             }
         });
-        tests.test("capture", result);
+        test(report, "capture", result);
     }
     let listed = stored.lines().filter(|line| !line.starts_with('#')).count();
     let complete = if listed == files.len() && listed > 0 {
@@ -346,5 +333,5 @@ fn capture_tests(tests: &mut Tests) {
     } else {
         Err(format!("{} captures, {listed} stored totals", files.len()))
     };
-    tests.test("all captures have totals", complete);
+    test(report, "all captures have totals", complete);
 }

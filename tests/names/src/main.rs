@@ -12,6 +12,8 @@ use std::fs;
 use std::path::Path;
 use std::process::ExitCode;
 
+use tools::Count;
+
 use names::{glob, Names};
 
 /// Words in backticks that are no names of the repository; they are left unchecked.
@@ -37,8 +39,7 @@ const DOCUMENTS: &str = "README.md docs/*.md tests/*/README.md bench/README.md";
 
 #[derive(Default)]
 struct Tests {
-    passed: usize,
-    failed: usize,
+    count: Count,
     names: usize,
     texts: usize,
 }
@@ -46,12 +47,9 @@ struct Tests {
 impl Tests {
     /// Counts a test, and prints what is wrong.
     fn test(&mut self, document: &str, result: Result<(), String>) {
-        match result {
-            Ok(()) => self.passed += 1,
-            Err(wrong) => {
-                self.failed += 1;
-                println!("{document}:{wrong}");
-            }
+        self.count.add(result.is_ok());
+        if let Err(wrong) = result {
+            println!("{document}:{wrong}");
         }
     }
 
@@ -107,6 +105,5 @@ fn main() -> ExitCode {
     }
     let (checked, texts) = (tests.names, tests.texts);
     println!("checked {checked} names, {texts} texts left unchecked");
-    println!("{} passed, {} failed", tests.passed, tests.failed);
-    ExitCode::from(u8::from(tests.failed > 0))
+    tests.count.finish()
 }

@@ -4,10 +4,11 @@ use std::collections::BTreeMap;
 use std::fs;
 use std::path::{Path, PathBuf};
 
+use tools::{ensure, Report};
+
 use crate::hex;
 use crate::oracle::session::Session;
 use crate::oracle::wire::{self, Side};
-use crate::report::{ensure, Report};
 use crate::script::Script;
 
 /// A capture of `tests/gate/captures`: its name, and how often each number comes.

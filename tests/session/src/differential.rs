@@ -2,11 +2,10 @@
 
 use std::collections::BTreeMap;
 
-use tools::Random;
+use tools::{ensure, Random, Report};
 
 use crate::generate::Traffic;
 use crate::oracle::wire::{self, Side};
-use crate::report::{ensure, Report};
 use crate::script::{library_numbers, Script};
 use Side::{Guest, Host};
 

@@ -11,7 +11,6 @@ mod hex;
 mod library;
 mod oracle;
 mod packets;
-mod report;
 mod scenarios;
 mod script;
 
@@ -19,28 +18,18 @@ use std::env;
 use std::path::Path;
 use std::process::ExitCode;
 
-use report::Report;
+use tools::Report;
 
 fn main() -> ExitCode {
     let seed = tools::seed();
     let mut report = Report::default();
-    report.open("scenarios");
-    scenarios::run(&mut report);
-    report.close();
-    report.open("captures");
-    captures::run(&mut report);
-    report.close();
-    report.open("differential");
-    differential::run(seed, &mut report);
-    report.close();
+    report.group("scenarios", scenarios::run);
+    report.group("captures", captures::run);
+    report.group("differential", |report| differential::run(seed, report));
     if let Some(directory) = env::args_os().nth(1) {
-        report.open("captures of the directory");
-        captures::run_directory(Path::new(&directory), &mut report);
-        report.close();
+        report.group("captures of the directory", |report| {
+            captures::run_directory(Path::new(&directory), report)
+        });
     }
-    if report.finish() {
-        ExitCode::SUCCESS
-    } else {
-        ExitCode::FAILURE
-    }
+    report.finish()
 }

@@ -9,10 +9,11 @@ mod requests;
 mod settling;
 mod streams;
 
+use tools::Report;
+
 use crate::hex;
 use crate::oracle::wire::{Hellos, Side};
 use crate::packets::{connect, endpoint_table, hello, interface_table, Packet, Rows};
-use crate::report::Report;
 use crate::script::Script;
 
 // Words with which both hellos come, so that a scenario is run with ids of either width and with few and all bits.

@@ -1,10 +1,11 @@
 //! Scripts, and the numbers that the library and the oracle give for them.
 
+use tools::ensure;
+
 use crate::hex;
 use crate::library;
 use crate::oracle;
 use crate::oracle::wire::Side;
-use crate::report::ensure;
 
 /// What the output holds before a call.
 const UNTOUCHED: u8 = 0xa5;

@@ -3,5 +3,7 @@
 #![forbid(unsafe_code)]
 
 mod random;
+mod report;
 
 pub use random::{seed, Random};
+pub use report::{ensure, Count, Report};

@@ -3,11 +3,12 @@
 use std::fs;
 use std::path::{Path, PathBuf};
 
+use tools::{ensure, Report};
+
 use crate::compare;
 use crate::hex;
 use crate::json::{self, Json};
 use crate::oracle::{self, Field, Header, Link, Packet, Shape, Value};
-use crate::report::{ensure, Report};
 
 /// A packet of a capture, with the link it is judged on.
 pub struct Captured {

@@ -1,9 +1,10 @@
 //! The library's answers about one packet against a reading of it.
 
+use tools::ensure;
+
 use crate::hex;
 use crate::library;
 use crate::oracle::{self, Link, Packet, Shape, Value};
-use crate::report::ensure;
 
 /// A packet has at most seven fields that are numbers; what is asked beyond them is 0.
 const FIELDS_ASKED: usize = 9;

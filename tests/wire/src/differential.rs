@@ -2,13 +2,12 @@
 
 use std::collections::BTreeSet;
 
-use tools::Random;
+use tools::{ensure, Random, Report};
 
 use crate::capture::Captured;
 use crate::compare;
 use crate::generate;
 use crate::oracle::{self, Kind, Link, KINDS};
-use crate::report::{ensure, Report};
 
 const BATCHES: usize = 400;
 const BATCH_SIZE: usize = 1_000;

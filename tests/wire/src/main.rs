@@ -12,14 +12,13 @@ mod hex;
 mod json;
 mod library;
 mod oracle;
-mod report;
 mod writer;
 
 use std::env;
 use std::path::PathBuf;
 use std::process::ExitCode;
 
-use report::Report;
+use tools::Report;
 
 fn main() -> ExitCode {
     let seed = tools::seed();
@@ -28,11 +27,7 @@ fn main() -> ExitCode {
     examples::run(&mut report);
     differential::run(seed, &captured, &mut report);
     writer::run(seed, &mut report);
-    if report.close() {
-        ExitCode::SUCCESS
-    } else {
-        ExitCode::FAILURE
-    }
+    report.finish()
 }
 
 fn directory() -> PathBuf {

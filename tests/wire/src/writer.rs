@@ -1,12 +1,11 @@
 //! The writer on bulk packets, also on those that it has to refuse: its number, and every byte of the output.
 
-use tools::Random;
+use tools::{ensure, Random, Report};
 
 use crate::library;
 use crate::oracle::{
     self, Link, Packet, Value, BULK_LENGTH_OF_32_BITS, IDS_OF_64_BITS, LONGEST_BODY,
 };
-use crate::report::{ensure, Report};
 
 const BATCHES: usize = 40;
 const BATCH_SIZE: usize = 500;

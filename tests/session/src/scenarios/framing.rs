@@ -1,9 +1,10 @@
 //! The script itself: where it is cut short, how much room the output has, what each call starts from.
 
+use tools::ensure;
+
 use super::*;
 use crate::oracle;
 use crate::packets::get_config;
-use crate::report::ensure;
 use crate::script::library_numbers;
 
 /// Hellos, a device and seven packets more, with their numbers.
