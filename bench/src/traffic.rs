@@ -135,13 +135,8 @@ pub fn interrupts(packets: usize) -> Traffic {
 pub fn capture(path: &Path, times: usize) -> Traffic {
     let text = std::fs::read_to_string(path).expect("a capture");
     let pieces = library::pieces(&text).map(|(from, bytes)| Piece { from, bytes });
-    let name = path
-        .file_stem()
-        .expect("a name")
-        .to_string_lossy()
-        .into_owned();
     Traffic {
-        name,
+        name: tools::captures::name(path),
         pieces: pieces.collect(),
         times,
     }

@@ -5,6 +5,7 @@ use std::fs;
 use std::path::{Path, PathBuf};
 
 use plain::HOLD_SIZE;
+use tools::captures;
 
 use crate::script::{Item, Line, Script};
 
@@ -15,13 +16,8 @@ pub fn directory() -> PathBuf {
 
 /// The captures in order of their names.
 pub fn files() -> Vec<PathBuf> {
-    let mut files: Vec<PathBuf> = fs::read_dir(directory())
-        .expect("the directory of captures is there")
-        .map(|entry| entry.expect("it can be listed").path())
-        .filter(|path| path.extension().is_some_and(|extension| extension == "txt"))
-        .filter(|path| path.file_stem().is_some_and(|stem| stem != "totals"))
-        .collect();
-    files.sort();
+    let mut files = captures::files(&directory(), "txt").expect("the directory can be listed");
+    files.retain(|path| captures::name(path) != "totals");
     files
 }
 

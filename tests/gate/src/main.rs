@@ -310,11 +310,7 @@ fn capture_tests(report: &mut Report) {
     let stored = fs::read_to_string(&path).unwrap_or_default();
     let files = captures::files();
     for file in &files {
-        let name = file
-            .file_stem()
-            .expect("a name")
-            .to_string_lossy()
-            .into_owned();
+        let name = tools::captures::name(file);
         let (script, stopped) = captures::script(file);
         let result = compare(&script).and_then(|outcome| {
             let totals =

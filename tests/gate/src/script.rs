@@ -2,7 +2,7 @@
 
 use library::record_of;
 use plain::{offer, Session, Side};
-use tools::Random;
+use tools::{hex, Random};
 
 /// One reader call.
 #[derive(Clone)]
@@ -79,11 +79,7 @@ impl Script {
                 Side::Guest => "guest",
                 Side::Host => "host",
             };
-            let digits: String = item
-                .piece
-                .iter()
-                .map(|byte| format!("{byte:02x}"))
-                .collect();
+            let digits = hex::digits(&item.piece);
             text.push_str(&format!("from={from} bytes={digits}\n"));
         }
         text

@@ -1,6 +1,7 @@
 //! The proved gate as a Rust function, and captures as pieces: what the tests of the gate and the benchmark share.
 
 use plain::{Answer, Place, Side};
+use tools::captures;
 
 extern "C" {
     fn drive(
@@ -58,18 +59,11 @@ pub fn record_of(answer: &Answer) -> [u8; RECORD] {
     record
 }
 
-/// The pieces of a capture in report lines.
+/// The pieces of a capture.
 pub fn pieces(text: &str) -> impl Iterator<Item = (Side, Vec<u8>)> + '_ {
-    text.lines().map(|line| {
-        let (from, digits) = match line.strip_prefix("from=guest bytes=") {
-            Some(digits) => (Side::Guest, digits),
-            None => (
-                Side::Host,
-                line.strip_prefix("from=host bytes=")
-                    .expect("a report line"),
-            ),
-        };
-        let byte = |at| u8::from_str_radix(&digits[at..at + 2], 16).expect("hex digits");
-        (from, (0..digits.len()).step_by(2).map(byte).collect())
+    captures::pieces(text).map(|piece| {
+        let (from_guest, bytes) = piece.expect("a capture");
+        let from = if from_guest { Side::Guest } else { Side::Host };
+        (from, bytes)
     })
 }

@@ -2,11 +2,10 @@
 
 use std::collections::BTreeMap;
 use std::fs;
-use std::path::{Path, PathBuf};
+use std::path::Path;
 
-use tools::{ensure, Report};
+use tools::{captures, ensure, Report};
 
-use crate::hex;
 use crate::oracle::session::Session;
 use crate::oracle::wire::{self, Side};
 use crate::script::Script;
@@ -46,7 +45,7 @@ pub fn run(report: &mut Report) {
 
 /// The captures of another directory: the library against the oracle, and a line of totals for each.
 pub fn run_directory(directory: &Path, report: &mut Report) {
-    match captures_in(directory) {
+    match captures::files(directory, "txt") {
         Ok(paths) => {
             for path in paths {
                 report.case(&path.display().to_string(), check(&path, None));
@@ -54,17 +53,6 @@ pub fn run_directory(directory: &Path, report: &mut Report) {
         }
         Err(why) => report.case(&directory.display().to_string(), Err(why)),
     }
-}
-
-/// The captures of the directory, sorted.
-fn captures_in(directory: &Path) -> Result<Vec<PathBuf>, String> {
-    let entries = fs::read_dir(directory).map_err(|why| why.to_string())?;
-    let mut paths: Vec<PathBuf> = entries
-        .filter_map(|entry| Some(entry.ok()?.path()))
-        .filter(|path| path.extension().is_some_and(|e| e == "txt"))
-        .collect();
-    paths.sort();
-    Ok(paths)
 }
 
 fn check(path: &Path, totals: Option<&[(u8, usize)]>) -> Result<(), String> {
@@ -106,15 +94,14 @@ fn cut(text: &str) -> Result<(Script, Vec<u8>), String> {
     };
     let mut guest = Pending::default();
     let mut host = Pending::default();
-    for line in text.lines() {
-        let (from, pending, digits) = if let Some(digits) = line.strip_prefix("from=guest bytes=") {
-            (Side::Guest, &mut guest, digits)
-        } else if let Some(digits) = line.strip_prefix("from=host bytes=") {
-            (Side::Host, &mut host, digits)
+    for piece in captures::pieces(text) {
+        let (from_guest, bytes) = piece?;
+        let (from, pending) = if from_guest {
+            (Side::Guest, &mut guest)
         } else {
-            return Err(format!("no line of a capture: {line}"));
+            (Side::Host, &mut host)
         };
-        pending.bytes.extend(hex::read(digits)?);
+        pending.bytes.extend(bytes);
         while let Some(size) = cutter.next_size(from, pending) {
             if !cutter.take(from, pending, size) {
                 return Ok((cutter.script, cutter.numbers));

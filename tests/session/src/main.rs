@@ -6,8 +6,6 @@
 mod captures;
 mod differential;
 mod generate;
-#[path = "../../wire/src/hex.rs"]
-mod hex;
 mod library;
 mod oracle;
 mod packets;

@@ -9,9 +9,8 @@ mod requests;
 mod settling;
 mod streams;
 
-use tools::Report;
+use tools::{hex, Report};
 
-use crate::hex;
 use crate::oracle::wire::{Hellos, Side};
 use crate::packets::{connect, endpoint_table, hello, interface_table, Packet, Rows};
 use crate::script::Script;

@@ -1,8 +1,7 @@
 //! Scripts, and the numbers that the library and the oracle give for them.
 
-use tools::ensure;
+use tools::{ensure, hex};
 
-use crate::hex;
 use crate::library;
 use crate::oracle;
 use crate::oracle::wire::Side;

@@ -2,6 +2,8 @@
 
 #![forbid(unsafe_code)]
 
+pub mod captures;
+pub mod hex;
 mod random;
 mod report;
 

@@ -3,10 +3,9 @@
 use std::fs;
 use std::path::{Path, PathBuf};
 
-use tools::{ensure, Report};
+use tools::{captures, ensure, hex, Report};
 
 use crate::compare;
-use crate::hex;
 use crate::json::{self, Json};
 use crate::oracle::{self, Field, Header, Link, Packet, Shape, Value};
 
@@ -62,12 +61,7 @@ fn check(captured: &Captured) -> Result<(), String> {
 
 /// The sidecars of the directory, sorted.
 fn sets(directory: &Path) -> Result<Vec<PathBuf>, String> {
-    let entries = fs::read_dir(directory).map_err(|why| why.to_string())?;
-    let mut sidecars: Vec<PathBuf> = entries
-        .filter_map(|entry| Some(entry.ok()?.path()))
-        .filter(|path| path.extension().is_some_and(|e| e == "jsonl"))
-        .collect();
-    sidecars.sort();
+    let sidecars = captures::files(directory, "jsonl")?;
     ensure(!sidecars.is_empty(), || "no sidecar here".to_string())?;
     Ok(sidecars)
 }
@@ -81,7 +75,7 @@ struct Stream {
 
 /// The packets of a set in wire order.
 fn packets(sidecar: &Path) -> Result<Vec<Captured>, String> {
-    let set = sidecar.file_stem().unwrap_or_default().to_string_lossy();
+    let set = captures::name(sidecar);
     let (mut guest, mut host) = streams(&read(&sidecar.with_extension("txt"))?)?;
     let mut link = Link {
         from_guest: true,
@@ -113,18 +107,14 @@ fn read(path: &Path) -> Result<String, String> {
     fs::read_to_string(path).map_err(|why| format!("{}: {why}", path.display()))
 }
 
-/// Both directions' bytes, guest first, from lines `from=guest bytes=HEX` and `from=host bytes=HEX`.
+/// Both directions' bytes of a capture, guest first.
 fn streams(text: &str) -> Result<(Stream, Stream), String> {
     let mut guest = Stream::default();
     let mut host = Stream::default();
-    for line in text.lines() {
-        if let Some(digits) = line.strip_prefix("from=guest bytes=") {
-            guest.bytes.extend(hex::read(digits)?);
-        } else if let Some(digits) = line.strip_prefix("from=host bytes=") {
-            host.bytes.extend(hex::read(digits)?);
-        } else {
-            return Err(format!("no line of a capture: {line}"));
-        }
+    for piece in captures::pieces(text) {
+        let (from_guest, bytes) = piece?;
+        let stream = if from_guest { &mut guest } else { &mut host };
+        stream.bytes.extend(bytes);
     }
     Ok((guest, host))
 }

@@ -1,8 +1,7 @@
 //! The library's answers about one packet against a reading of it.
 
-use tools::ensure;
+use tools::{ensure, hex};
 
-use crate::hex;
 use crate::library;
 use crate::oracle::{self, Link, Packet, Shape, Value};
 

@@ -1,10 +1,9 @@
 //! The marked examples of document 01 that one packet decides, and packets that tell readings of its sentences apart. Their
 //! numbers are written out here, so they measure the oracle as well.
 
-use tools::{ensure, Report};
+use tools::{ensure, hex, Report};
 
 use crate::compare;
-use crate::hex;
 use crate::library;
 use crate::oracle::{self, Link};
 

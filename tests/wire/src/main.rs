@@ -8,7 +8,6 @@ mod compare;
 mod differential;
 mod examples;
 mod generate;
-mod hex;
 mod json;
 mod library;
 mod oracle;

@@ -16,9 +16,14 @@ pub fn read(text: &str) -> Result<Vec<u8>, String> {
     }
 }
 
+/// The digits of the bytes.
+pub fn digits(bytes: &[u8]) -> String {
+    bytes.iter().map(|byte| format!("{byte:02x}")).collect()
+}
+
 /// The digits of the bytes, for a message: at most those of the first 400.
 pub fn show(bytes: &[u8]) -> String {
-    let mut text: String = bytes.iter().take(400).map(|b| format!("{b:02x}")).collect();
+    let mut text = digits(&bytes[..bytes.len().min(400)]);
     if bytes.len() > 400 {
         text.push_str(&format!(".. ({} bytes)", bytes.len()));
     }
