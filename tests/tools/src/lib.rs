@@ -2,10 +2,12 @@
 
 #![forbid(unsafe_code)]
 
+mod archive;
 pub mod captures;
 pub mod hex;
 mod random;
 mod report;
 
+pub use archive::link;
 pub use random::{seed, Random};
 pub use report::{ensure, Count, Report};
