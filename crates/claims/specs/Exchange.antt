@@ -28,6 +28,7 @@ use Rattle.requests.specs.declared.Query.{Query}
 use Rattle.requests.specs.declared.Query.the-variants.{Free, Id, Settling, Answered}
 use Rattle.requests.specs.Requests.{freePlace, taken, isData, answers, lowest, placeAt, ends, idsDiffer}
 use Rattle.requests.specs.Laws.{differ-when}
+use Rattle.kinds.specs.RoundTrip.{clean}
 use Rattle.events.specs.declared.Event.{Event}
 use Rattle.events.specs.Meaning.{meanings, lookUp}
 use Rattle.events.specs.Event.{field, meaningOf, targetOf, eventOf}
@@ -39,7 +40,7 @@ use Rattle.session.specs.Step.{scopeOf, nextFor, judged}
 use Rattle.claims.specs.Allowed.{among, oneOf, isRequest, isReply, answersKind, carriesTarget, inwardOf, countOf, requestOf, Answers, Unsolicited, Allowed}
 use Rattle.claims.specs.Agree.{factsOf, factsBy, agrees}
 use Rattle.claims.specs.Passes.{holds-none, passes, answers-to, match-is, alone-to, reply-from, unsolicited-is}
-use Rattle.claims.specs.Steps.{number-is, request-takes, clean, from-host, reply-does, none-held, Freed, reply-frees, unmatched-keeps, NoLive, answered-once, late-reply}
+use Rattle.claims.specs.Steps.{number-is, request-takes, from-host, reply-does, none-held, Freed, reply-frees, unmatched-keeps, NoLive, answered-once, late-reply}
 
 -- ---- what is said of a request
 

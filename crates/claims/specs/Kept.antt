@@ -36,6 +36,7 @@ use Rattle.requests.specs.declared.Requests.{Requests}
 use Rattle.requests.specs.declared.Query.the-variants.{Free, Id}
 use Rattle.requests.specs.Requests.{freePlace, freshRequests, taken, lowest, withPlace, released, idsDiffer}
 use Rattle.requests.specs.Laws.{with-place-length, released-length, fresh-length, fresh-differ, free-differ, released-differ, taken-differ}
+use Rattle.kinds.specs.RoundTrip.{Clean, clean}
 use Rattle.events.specs.declared.Class.{Class}
 use Rattle.events.specs.declared.Class.the-variants.{Hello as HelloClass, Connect, Interfaces, Endpoints, Disconnect, Reset, Ack, Cancel, Filter, StartRequest, PlainRequest, StreamStatus, PlainReply, StreamData}
 use Rattle.events.specs.declared.Typed.{Typed}
@@ -48,7 +49,7 @@ use Rattle.checks.specs.Checks.{traitsOf, isSome, matchOf}
 use Rattle.session.specs.declared.Session.{Session}
 use Rattle.session.specs.Session.{freshSession, linkOf, isShared, unfit}
 use Rattle.session.specs.Step.{keptHello, isHello, streamBy, opens, scopeOf, replyRows, deviceAfter, takenAt, answered, nextFor, judged}
-use Rattle.claims.specs.Steps.{after, step, none-held, Role, leaving, asking, answering, ending, roleOf, requestsBy, Does, does, next-requests, Clean, clean}
+use Rattle.claims.specs.Steps.{after, step, none-held, Role, leaving, asking, answering, ending, roleOf, requestsBy, Does, does, next-requests}
 
 -- ---- the requests
 

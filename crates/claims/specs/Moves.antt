@@ -41,6 +41,7 @@ use Rattle.device.specs.Laws.{start-length, stream-length}
 use Rattle.requests.specs.declared.Place.{Place}
 use Rattle.requests.specs.declared.Requests.{Requests}
 use Rattle.requests.specs.Requests.{freePlace, freshRequests, lowest, placeAt}
+use Rattle.kinds.specs.RoundTrip.{clean}
 use Rattle.events.specs.declared.Event.{Event}
 use Rattle.events.specs.Meaning.{meanings}
 use Rattle.events.specs.Event.{field, meaningOf, announcedRow, announcedIn, eventOf}
@@ -51,7 +52,7 @@ use Rattle.session.specs.Session.{linkOf, isShared}
 use Rattle.session.specs.Step.{keptHello, opens, scopeOf, nextFor, judged}
 use Rattle.claims.specs.Allowed.{among, isRequest, isReply, answersKind, endpointOf, inwardOf}
 use Rattle.claims.specs.Agree.{answersBy, packetOf, _also_, Every, by-guest, by-host, by-both, found-kind, answeredAt}
-use Rattle.claims.specs.Steps.{passed, clean}
+use Rattle.claims.specs.Steps.{passed}
 use Rattle.claims.specs.Kept.{Sized}
 
 -- row r of a session's device

@@ -19,6 +19,7 @@ use Rattle.requests.specs.declared.Query.the-variants.{Free, Id, Settling, Answ
 use Rattle.requests.specs.declared.Place.{Place}
 use Rattle.requests.specs.Requests.{answers, lowest, placeAt}
 use Rattle.scan.specs.Scan.{firstAt}
+use Rattle.kinds.specs.RoundTrip.{clean}
 use Rattle.events.specs.declared.Event.{Event}
 use Rattle.events.specs.Event.{field, eventOf}
 use Rattle.checks.specs.declared.Match.the-variants.{Unmatched}
@@ -29,7 +30,7 @@ use Rattle.session.specs.Step.{judged}
 use Rattle.claims.specs.Allowed.{among, isRequest, isReply, onStream, endpointOf, inwardOf, countOf}
 use Rattle.claims.specs.Agree.{factsOf, factsBy, disordered, typedBy, answeredAt, agrees}
 use Rattle.claims.specs.Passes.{order-is, types-are, stream-is, stream-at, match-is, answers-is, unsolicited-is}
-use Rattle.claims.specs.Steps.{number-is, clean}
+use Rattle.claims.specs.Steps.{number-is}
 
 abbrev pub longerThan : Requests → Content → Option ℕ → Bool
 longerThan t p none = false

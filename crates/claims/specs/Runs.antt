@@ -15,13 +15,14 @@ use Rattle.device.specs.Device.{startDevice, controlRows}
 use Rattle.device.specs.Laws.{start-control}
 use Rattle.requests.specs.Requests.{placeAt, idsDiffer}
 use Rattle.requests.specs.Laws.{fresh-differ}
+use Rattle.kinds.specs.RoundTrip.{clean}
 use Rattle.events.specs.Event.{eventOf}
 use Rattle.session.specs.declared.Session.{Session}
 use Rattle.session.specs.Session.{freshSession, linkOf}
 use Rattle.session.specs.Step.{judged}
 use Rattle.claims.specs.Allowed.{isRequest, isReply, inwardOf}
 use Rattle.claims.specs.Agree.{agrees}
-use Rattle.claims.specs.Steps.{clean, NoLive, absent-kept, ended-absent}
+use Rattle.claims.specs.Steps.{NoLive, absent-kept, ended-absent}
 use Rattle.claims.specs.Kept.{Sized, start-sized, kept-ids, kept-control, event-control, kept-lengths}
 use Rattle.claims.specs.Exchange.{LateReply, late}
 

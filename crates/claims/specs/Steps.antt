@@ -5,12 +5,11 @@
 -- four roles of a class, and what stands at a place afterwards by the laws of the table.
 -- Assumes nothing.
 use Prim.Native.Nat.{ℕ, zero, suc, _≤_, _<_}
-use mathlib.Core.Bool.{Bool, true, false, cond, not, _&&_, _||_, false≢true, true≢false}
+use mathlib.Core.Bool.{Bool, true, false, cond, not, _&&_, false≢true, true≢false}
 use mathlib.Core.List.{List, [], _∷_}
 use mathlib.Core.Logic.{_⊎_, inl, inr}
 use mathlib.Core.Option.{Option, none, some}
 use mathlib.Core.Path.{_≡_, refl, sym, ap, _∙_}
-use native.Mathlib.Omega.{arith}
 use lib.ListN.{length, getD, replicate}
 use lib.Dec.{eqb}
 use borrow.Author.Tests.{eqb-true, eqb-false, eq-eqb, ltb-false, not-true, not-false}
@@ -19,11 +18,10 @@ use Rattle.number.specs.Logic.{and-parts, and-whole, fails}
 use Rattle.header.specs.declared.Side.{Side}
 use Rattle.header.specs.declared.Side.the-variants.{Guest, Host}
 use Rattle.header.specs.declared.Link.{Link}
-use Rattle.header.specs.Link.{sharedSet}
 use Rattle.kinds.specs.Table.{Kind, kinds}
-use Rattle.kinds.specs.Content.{Content, shared, find}
-use Rattle.kinds.specs.Number.{isGuest, sends, surplus, wideId, sizeOk, bad, isNone, streamsAlone, kindNumber, byKind, wireNumber}
-use Rattle.kinds.specs.RoundTrip.{none-holds as wire-none-holds}
+use Rattle.kinds.specs.Content.{Content, find}
+use Rattle.kinds.specs.Number.{isGuest, sends, wireNumber}
+use Rattle.kinds.specs.RoundTrip.{Clean, clean}
 use Rattle.device.specs.declared.Device.{Device}
 use Rattle.requests.specs.declared.Place.{Place}
 use Rattle.requests.specs.declared.Request.{Request}
@@ -475,29 +473,6 @@ late-reply s e h g n =
     }
 
 -- ---- a packet that the wire checks pass
-
--- it is of a kind that its sender may send, and keeps the rules of its fields
-pub record Clean (l : Link) (p : Content) : Type 0 where
-  pub kind : Kind
-  pub found : find (p .kind) kinds ≡ some kind
-  pub sender : sends (kind .sender) (l .sender) ≡ true
-  pub rules : isNone (bad (l .sender) (sharedSet l) kind p) ≡ true
-
-pub clean : (l : Link) (p : Content) → wireNumber l p ≡ 0 → Clean l p
-unfolding wireNumber kindNumber
-clean l p z = go (find (p .kind) kinds) refl z
-  where
-    go : (o : Option Kind) → find (p .kind) kinds ≡ o → byKind l o p ≡ 0 → Clean l p
-    go none f n = absurd (omega (arith, n))
-    go (some k) f n =
-        let caps = sharedSet l in
-        let h =
-        wire-none-holds (not (sends (k .sender) (l .sender)))
-        (not (shared caps (k .needs)) || surplus caps (k .fields) (p .fields) || wideId l p)
-        (not (sizeOk (l .sender) k p))
-        (not (isNone (bad (l .sender) caps k p)))
-        (streamsAlone (k .tail) (p .rest)) n in
-        record { kind = k; found = f; sender = not-false (sends (k .sender) (l .sender)) (h .0); rules = not-false (isNone (bad (l .sender) (sharedSet l) k p)) (h .3) }
 
 -- the guest may not send it
 abbrev unsent : Option Kind → Bool

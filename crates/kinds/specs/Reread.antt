@@ -4,7 +4,7 @@
 -- back one by one (`number-there`).
 -- Assumes nothing.
 use mathlib.Core.Path.{_≡_, refl, sym, ap, _∙_}
-use mathlib.Core.Bool.{Bool, true, false, not, _||_}
+use mathlib.Core.Bool.{Bool, true, false}
 use mathlib.Core.List.{List, _++_}
 use mathlib.Core.Option.{Option, none, some}
 use Prim.Native.Nat.{ℕ, _+_, _^_, _≤_, _<_}
@@ -13,34 +13,27 @@ use native.Mathlib.Omega.{arith}
 use lib.ListN.{length, drop, length-drop}
 use lib.Seq.{drop-drop}
 use lib.Dec.{eqb, ltb}
-use borrow.Author.Tests.{eqb-true, leb-true, not-false}
+use borrow.Author.Tests.{eqb-true, leb-true}
 use Rattle.number.specs.Little.{le, bytesOf}
 use Rattle.number.specs.Laws.{le-drop, le-lt}
-use Rattle.number.specs.Logic.{and-parts}
 use Rattle.header.specs.declared.Link.{Link}
 use Rattle.header.specs.Link.{sharedSet, idWidth}
 use Rattle.header.specs.Header.{kindOf, lengthOf, idOf, headerSize, headerBytes, headerNumber}
 use Rattle.header.specs.Laws.{id-widths}
 use Rattle.kinds.specs.Table.{Kind, kinds}
 use Rattle.kinds.specs.Content.{Content, shared, size, split, find, fieldsOf}
-use Rattle.kinds.specs.Number.{sends, surplus, wideId, complete, tailOk, sizeOk, bad, isNone, streamsAlone, kindNumber, wireNumber}
+use Rattle.kinds.specs.Number.{complete, wireNumber}
 use Rattle.kinds.specs.Codec.{layout, contentAt, decode, readNumber, bodyOf, encode, bodyLength, packetNumber, Accepted}
 use Rattle.kinds.specs.Laws.{complete-split, fitting-split}
-use Rattle.kinds.specs.RoundTrip.{none-holds, both-zero}
+use Rattle.kinds.specs.RoundTrip.{clean, both-zero}
 use Rattle.kinds.specs.Again.{Octets, octets-drop, number-again, again}
 
 -- where the wire checks find nothing, each field has all its numbers
 pub all-there : (l : Link) (q : Content) (k : Kind) → find (q .kind) kinds ≡ some k → wireNumber l q ≡ 0 → complete (k .fields) (q .fields) ≡ true
-unfolding wireNumber kindNumber
 all-there l q k f z =
-    let n : kindNumber l k q ≡ 0 = rw f at z in
-    let h = none-holds (not (sends (k .sender) (l .sender)))
-    (not (shared (sharedSet l) (k .needs)) || surplus (sharedSet l) (k .fields) (q .fields) || wideId l q)
-    (not (sizeOk (l .sender) k q))
-    (not (isNone (bad (l .sender) (sharedSet l) k q)))
-    (streamsAlone (k .tail) (q .rest)) n in
-    and-parts (complete (k .fields) (q .fields)) (tailOk (k .tail) (l .sender) (k .fields) (q .fields) (length (q .rest)))
-    (not-false (sizeOk (l .sender) k q) (h .2)) .0
+    let c = clean l q z in
+    let e : c .kind ≡ k = cc (c .found, f) in
+    ap (λ (m : Kind). complete (m .fields) (q .fields)) (sym e) ∙ c .there
 
 -- what a number of 0 says of bytes that were read
 record Whole (l : Link) (b : List ℕ) : Type 0 where

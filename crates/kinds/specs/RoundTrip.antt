@@ -22,19 +22,55 @@ use Rattle.number.specs.Little.{le}
 use Rattle.number.specs.Logic.{and-parts, or-parts}
 use Rattle.kinds.specs.Table.{Field, Kind, Id, id-any, id-zero, kinds}
 use Rattle.kinds.specs.Content.{Content, shared, size, split, bytes, named, find}
-use Rattle.kinds.specs.Number.{sends, surplus, wideId, complete, tailOk, sizeOk, badFields, badTail, badId, bad, isNone, orElse, streamsAlone, inOrder, kindNumber, wireNumber}
+use Rattle.kinds.specs.Number.{sends, surplus, wideId, complete, tailOk, sizeOk, badFields, badTail, badId, bad, isNone, orElse, streamsAlone, inOrder, kindNumber, wireNumber, byKind}
 use Rattle.kinds.specs.Codec.{layout, contentAt, decode, orNext, readNumber, bodyOf, encode, bodyLength, packetNumber, Accepted}
 use Rattle.kinds.specs.Laws.{isNone-left, isNone-right, Fit, fit, round, length-of, rest-back}
 
 -- ---- what a number of 0 says
 
-pub none-holds : (a b c d e : Bool) → inOrder a b c d e ≡ 0 → (a ≡ false) × (b ≡ false) × (c ≡ false) × (d ≡ false) × (e ≡ false)
+none-holds : (a b c d e : Bool) → inOrder a b c d e ≡ 0 → (a ≡ false) × (b ≡ false) × (c ≡ false) × (d ≡ false) × (e ≡ false)
 none-holds true b c d e z = absurd (omega (arith, z))
 none-holds false true c d e z = absurd (omega (arith, z))
 none-holds false false true d e z = absurd (omega (arith, z))
 none-holds false false false true e z = absurd (omega (arith, z))
 none-holds false false false false true z = absurd (omega (arith, z))
 none-holds false false false false false z = (refl, refl, refl, refl, refl)
+
+-- a packet that the wire checks pass: of a kind that its sender may send, with the fields that are shared and an id of the header's width,
+-- each field whole and none that breaks its rule
+pub record Clean (l : Link) (p : Content) : Type 0 where
+  pub kind : Kind
+  pub found : find (p .kind) kinds ≡ some kind
+  pub sender : sends (kind .sender) (l .sender) ≡ true
+  pub sharing : surplus (sharedSet l) (kind .fields) (p .fields) ≡ false
+  pub narrow : wideId l p ≡ false
+  pub there : complete (kind .fields) (p .fields) ≡ true
+  pub rules : isNone (bad (l .sender) (sharedSet l) kind p) ≡ true
+
+pub clean : (l : Link) (p : Content) → wireNumber l p ≡ 0 → Clean l p
+unfolding wireNumber kindNumber
+clean l p z = go (find (p .kind) kinds) refl z
+  where
+    go : (o : Option Kind) → find (p .kind) kinds ≡ o → byKind l o p ≡ 0 → Clean l p
+    go none f n = absurd (omega (arith, n))
+    go (some k) f n =
+        let caps : ℕ = sharedSet l in
+        let fs : List Field = k .fields in
+        let h = none-holds (not (sends (k .sender) (l .sender)))
+        (not (shared caps (k .needs)) || surplus caps fs (p .fields) || wideId l p)
+        (not (sizeOk (l .sender) k p))
+        (not (isNone (bad (l .sender) caps k p)))
+        (streamsAlone (k .tail) (p .rest)) n in
+        let u = or-parts (not (shared caps (k .needs)) || surplus caps fs (p .fields)) (wideId l p) (h .1) in
+        record {
+          kind = k;
+          found = f;
+          sender = not-false (sends (k .sender) (l .sender)) (h .0);
+          sharing = or-parts (not (shared caps (k .needs))) (surplus caps fs (p .fields)) (u .0) .1;
+          narrow = u .1;
+          there = and-parts (complete fs (p .fields)) (tailOk (k .tail) (l .sender) fs (p .fields) (length (p .rest))) (not-false (sizeOk (l .sender) k p) (h .2)) .0;
+          rules = not-false (isNone (bad (l .sender) caps k p)) (h .3);
+        }
 
 pub both-zero : (n m : ℕ) → orNext n m ≡ 0 → (n ≡ 0) × (m ≡ 0)
 both-zero n m e = go (eqb n 0) refl
@@ -105,41 +141,25 @@ id-fits l p k f w b = go (eqb (p .kind) 0) refl
 
 -- a number of 0 says that no check holds (`none-holds`), and each that does not hold gives a part of this
 pub accepted : (l : Link) (p : Content) → Accepted l p → Encodable l p
-unfolding packetNumber wireNumber kindNumber layout bad
-accepted l p a = go (find (p .kind) kinds) refl
-  where
-    zs : (headerNumber l (p .kind) (bodyLength l p) ≡ 0) × (wireNumber l p ≡ 0)
-    zs = both-zero (headerNumber l (p .kind) (bodyLength l p)) (wireNumber l p) (a .number)
-
-    -- an unknown kind has 20; a known one its checks
-    go : (o : Option Kind) → find (p .kind) kinds ≡ o → Encodable l p
-    go none f = let z : _≡_ {A = ℕ} 20 0 = rw f at (zs .1) in absurd (omega arith)
-    go (some k) f =
-        let caps : ℕ = sharedSet l in
-        let fs : List Field = k .fields in
-        let n : kindNumber l k p ≡ 0 = rw f at (zs .1) in
-        let h = none-holds (not (sends (k .sender) (l .sender)))
-        (not (shared caps (k .needs)) || surplus caps fs (p .fields) || wideId l p)
-        (not (sizeOk (l .sender) k p))
-        (not (isNone (bad (l .sender) caps k p)))
-        (streamsAlone (k .tail) (p .rest)) n in
-        let all : isNone (bad (l .sender) caps k p) ≡ true = not-false (isNone (bad (l .sender) caps k p)) (h .3) in
-        let x : Option ℕ = badFields (l .sender) caps (named "endpoint" fs (p .fields)) fs (p .fields) 0 in
-        let t : Option ℕ = badTail (k .tail) (p .rest) (size (shared caps) fs) in
-        let i : Option ℕ = badId (k .id) (p .id) in
-        record {
-          kind = found-fits (p .kind) kinds k kinds-fit f;
-          id = id-fits l p k f
-              (or-parts (not (shared caps (k .needs)) || surplus caps fs (p .fields)) (wideId l p) (h .1) .1)
-              (isNone-right t i (isNone-right x (orElse t i) all));
-          fields = rw f
-              (fit (l .sender) caps (named "endpoint" fs (p .fields)) fs (p .fields) 0 (rw f at (a .fields))
-              (and-parts (complete fs (p .fields)) (tailOk (k .tail) (l .sender) fs (p .fields) (length (p .rest))) (not-false (sizeOk (l .sender) k p) (h .2)) .0)
-              (or-parts (not (shared caps (k .needs))) (surplus caps fs (p .fields)) (or-parts (not (shared caps (k .needs)) || surplus caps fs (p .fields)) (wideId l p) (h .1) .0) .1)
-              (isNone-left x (orElse t i) all));
-          header = zs .0;
-          wire = zs .1;
-        }
+unfolding packetNumber layout bad
+accepted l p a =
+    let z = both-zero (headerNumber l (p .kind) (bodyLength l p)) (wireNumber l p) (a .number) in
+    let c = clean l p (z .1) in
+    let caps : ℕ = sharedSet l in
+    let k : Kind = c .kind in
+    let fs : List Field = k .fields in
+    let x : Option ℕ = badFields (l .sender) caps (named "endpoint" fs (p .fields)) fs (p .fields) 0 in
+    let t : Option ℕ = badTail (k .tail) (p .rest) (size (shared caps) fs) in
+    let i : Option ℕ = badId (k .id) (p .id) in
+    record {
+      kind = found-fits (p .kind) kinds k kinds-fit (c .found);
+      id = id-fits l p k (c .found) (c .narrow) (isNone-right t i (isNone-right x (orElse t i) (c .rules)));
+      fields = rw (c .found)
+          (fit (l .sender) caps (named "endpoint" fs (p .fields)) fs (p .fields) 0 (rw (c .found) at (a .fields)) (c .there) (c .sharing)
+          (isNone-left x (orElse t i) (c .rules)));
+      header = z .0;
+      wire = z .1;
+    }
 
 -- ---- the round trip
 
