@@ -12,9 +12,9 @@ use native.Mathlib.Numerals.{add-one}
 use native.Mathlib.Omega.{arith}
 use borrow.Author.Tests.{leb-true, ltb-true, ltb-false, eq-eqb, ne-eqb, le-ltb, lt-ltb}
 use lib.ListN.{length, replicate, getD, set, take, drop, length-append, length-drop, length-set, drop-of-length-le}
-use lib.Seq.{sets, slice, take-length, take-all, drop-cons, set-out, drop-set-lt, getD-set-same, length-sets}
+use lib.Seq.{sets, slice, take-length, take-all, drop-cons, drop-set-lt, getD-set-same, length-sets}
 use lib.Dec.{eqb, leb, ltb}
-use Rattle.number.specs.Laws.{sets-append}
+use Rattle.number.specs.Laws.{sets-append, sets-out}
 use Rattle.number.specs.Logic.{and-parts}
 use Rattle.header.specs.declared.Side.{Side}
 use Rattle.header.specs.declared.Side.the-variants.{Guest, Host}
@@ -119,17 +119,13 @@ module _ (line : List ℕ) {out : List ℕ} where
 
 -- ---- a line, laid part by part
 
-pub sets-past : (l xs : List ℕ) (i : ℕ) → length l ≤ i → sets l i xs ≡ l
-sets-past l [] i h = refl
-sets-past l (x ∷ xs) i h = rw (set-out l i x h) (sets-past l xs (suc i) (omega arith))
-
 -- two places that are the same as far as there is anything
 pub sets-cut : (l xs : List ℕ) (i j m : ℕ) → length l ≤ m → min i m ≡ min j m → sets l i xs ≡ sets l j xs
 sets-cut l xs i j m h e = go (ltb i m) refl
   where
     go : (b : Bool) → ltb i m ≡ b → sets l i xs ≡ sets l j xs
     go true t = let q : i ≡ j = omega (arith, ltb-true i m t) in ap (λ (k : ℕ). sets l k xs) q
-    go false t = sets-past l xs i (omega (arith, ltb-false i m t)) ∙ sym (sets-past l xs j (omega (arith, ltb-false i m t)))
+    go false t = sets-out l xs i (omega (arith, ltb-false i m t)) ∙ sym (sets-out l xs j (omega (arith, ltb-false i m t)))
 
 -- a part behind another is one part
 pub adds-then : {at k : ℕ} {out mid after xs ys : List ℕ} {a r : ℕ} → length out ≤ largest → Adds xs at k out a mid

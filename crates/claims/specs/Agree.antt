@@ -15,7 +15,7 @@ use borrow.Table.Steps.{cases}
 use Rattle.header.specs.declared.Side.{Side}
 use Rattle.header.specs.declared.Side.the-variants.{Guest, Host}
 use Rattle.kinds.specs.Table.{G, H, Kind, kinds}
-use Rattle.kinds.specs.Content.{Value, Content, find}
+use Rattle.kinds.specs.Content.{Value, Content, find, packetOf}
 use Rattle.kinds.specs.Codec.{layout}
 use Rattle.kinds.specs.Number.{sends}
 use Rattle.device.specs.declared.Device.{Device}
@@ -103,9 +103,6 @@ factsBy from p =
     }
 
 -- ---- what holds for each kind of the table, from whoever may send it
-
-abbrev pub packetOf : ℕ → ℕ → List Value → List ℕ → Content
-packetOf n id vs rest = record { kind = n; id = id; fields = vs; rest = rest }
 
 infixr 40 _also_
 pub _also_ : {A B : Type 0} → A → B → A × B

@@ -12,13 +12,12 @@ use Rattle.header.specs.Link.{sharedSet, idWidth}
 use Rattle.header.specs.declared.Side.{Side}
 use Rattle.header.specs.declared.Side.the-variants.{Guest, Host}
 use Rattle.kinds.specs.Table.{kinds}
-use Rattle.kinds.specs.Content.{Value, one}
+use Rattle.kinds.specs.Content.{Value, one, packetOf}
 use Rattle.kinds.specs.Codec.{layout}
 use Rattle.kinds.specs.Number.{onward, bad, kindNumber, wireNumber}
 use Rattle.scan.specs.Scan.{firstAt, exists, anyAt, eachAt}
 use Rattle.device.specs.Device.{startRows, startDevice, replaced, streamTo, closed, touched}
 use Rattle.requests.specs.Requests.{freshRequests, lowest, withPlace, released}
-use Rattle.kinds.specs.Examples.{packet}
 use Rattle.events.specs.Meaning.{meanings}
 use Rattle.events.specs.Event.{meaningOf, eventOf}
 use Rattle.checks.specs.Checks.{matchOf, numberFor}
@@ -31,7 +30,7 @@ use Rattle.claims.specs.Runs.{Sent}
 -- ---- packets
 
 abbrev carrying : Side → ℕ → ℕ → List Value → List ℕ → Sent
-carrying from kind id fs rest = record { from = from; packet = packet kind id fs rest }
+carrying from kind id fs rest = record { from = from; packet = packetOf kind id fs rest }
 
 abbrev sent : Side → ℕ → ℕ → List Value → Sent
 sent from kind id fs = carrying from kind id fs []

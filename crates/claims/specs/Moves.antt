@@ -25,7 +25,7 @@ use Rattle.header.specs.declared.Side.the-variants.{Host}
 use Rattle.header.specs.declared.Hello.{Hello}
 use Rattle.header.specs.declared.Hello.the-variants.{Awaited, Passed}
 use Rattle.kinds.specs.Table.{Field, kinds}
-use Rattle.kinds.specs.Content.{Value, Content}
+use Rattle.kinds.specs.Content.{Value, Content, packetOf}
 use Rattle.kinds.specs.Codec.{layout}
 use Rattle.kinds.specs.Number.{isGuest, wireNumber}
 use Rattle.rows.specs.Rows.{column, element}
@@ -51,7 +51,7 @@ use Rattle.session.specs.declared.Session.{Session}
 use Rattle.session.specs.Session.{linkOf, isShared}
 use Rattle.session.specs.Step.{keptHello, opens, scopeOf, nextFor, judged}
 use Rattle.claims.specs.Allowed.{among, isRequest, isReply, answersKind, endpointOf, inwardOf}
-use Rattle.claims.specs.Agree.{answersBy, packetOf, _also_, Every, by-guest, by-host, by-both, found-kind, answeredAt}
+use Rattle.claims.specs.Agree.{answersBy, _also_, Every, by-guest, by-host, by-both, found-kind, answeredAt}
 use Rattle.claims.specs.Steps.{passed}
 use Rattle.claims.specs.Kept.{Sized}
 

@@ -14,7 +14,7 @@ use lib.Dec.{eqb, leb, ltb}
 use borrow.Author.Tests.{lt-leb, ltb-true, ltb-false, ne-eqb, not-true, not-false}
 use borrow.Table.Steps.{cases}
 use Rattle.number.specs.Bits.{hasBit}
-use Rattle.number.specs.Logic.{and-parts, or-parts}
+use Rattle.number.specs.Logic.{and-parts, or-parts, failing}
 use Rattle.header.specs.declared.Link.{Link}
 use Rattle.header.specs.declared.Side.{Side}
 use Rattle.header.specs.Link.{sharedSet, idWidth}
@@ -45,10 +45,6 @@ no-tail words from fs vs n e z = absurd (false≢true e)
 no-tail string from fs vs n e z = absurd (false≢true e)
 no-tail payload from fs vs n e z = absurd (false≢true e)
 no-tail payload-onward from fs vs n e z = absurd (false≢true e)
-
-and-false : (a b : Bool) → b ≡ false → (a && b) ≡ false
-and-false true b e = e
-and-false false b e = refl
 
 module _ (l : Link) (slot id : ℕ) (body : List ℕ) (small : slot < 33) (fits : id < 256 ^ 8) where
   -- the number where the size is wrong
@@ -94,8 +90,8 @@ module _ (l : Link) (slot id : ℕ) (body : List ℕ) (small : slot < 33) (fits 
       let t : isNothing (k .tail) ≡ true = not-false (isNothing (k .tail)) (or-parts (not (isNothing (k .tail))) _ c .0) in
       let r : length (q .rest) ≡ length body - size (shared caps) (k .fields) =
       (λ i. length (drop (size (shared caps) (f i)) body)) ∙ length-drop (size (shared caps) (k .fields)) body in
-      and-false (complete (k .fields) (q .fields)) _
-      (no-tail (k .tail) (l .sender) (k .fields) (q .fields) (length (q .rest)) t (λ z. let y : length body - size (shared caps) (k .fields) ≡ 0 = sym r ∙ z in omega arith))
+      failing (complete (k .fields) (q .fields)) _
+      (λ _. no-tail (k .tail) (l .sender) (k .fields) (q .fields) (length (q .rest)) t (λ z. let y : length body - size (shared caps) (k .fields) ≡ 0 = sym r ∙ z in omega arith))
 
   pub misfits : (ltb (length body) (size (shared (sharedSet l)) (kindAt slot .fields)) || (not (carries (kindAt slot)) && ltb (size (shared (sharedSet l)) (kindAt slot .fields)) (length body))) ≡ true
       → wireNumber l (contentAt (sharedSet l) (kindAt slot .number) id body) ≡ misfitNumber l slot id

@@ -7,7 +7,7 @@
 use Prim.Native.Nat.{ℕ, _+_, _≤_}
 use native.Mathlib.Omega.{arith}
 use mathlib.Core.Path.{_≡_, refl, sym, ap, subst, _∙_}
-use mathlib.Core.Bool.{Bool, true, false, cond, not, _&&_, true≢false, false≢true}
+use mathlib.Core.Bool.{Bool, true, false, cond, not, _&&_, true≢false, false≢true, and-false}
 use mathlib.Core.List.{List, [], _∷_, _++_}
 use lib.Bits.{bitAnd, and-zero-l, and-zero-r}
 use lib.ListN.{length, take}
@@ -16,6 +16,7 @@ use lib.Dec.{eqb, ltb}
 use borrow.Author.Tests.{eqb-true, le-ltb}
 use borrow.Table.Steps.{cases}
 use Rattle.number.specs.Bits.{hasBit}
+use Rattle.number.specs.Laws.{take-sets}
 use Rattle.header.specs.declared.Side.{Side}
 use Rattle.header.specs.declared.Side.the-variants.{Guest, Host}
 use Rattle.header.specs.declared.Hello.{Hello}
@@ -32,7 +33,7 @@ use Rattle.events.specs.declared.Event.{Event}
 use Rattle.events.specs.Event.{eventOf}
 use Rattle.session.specs.declared.Session.{Session}
 use Rattle.session.specs.Session.{freshSession, linkOf, unfit}
-use Rattle.session.specs.Step.{isHello, keptHello, nextFor, judged}
+use Rattle.session.specs.Step.{isHello, nextFor, judged}
 use Rattle.claims.specs.Allowed.{among}
 use Rattle.claims.specs.Steps.{step}
 use Rattle.claims.specs.Kept.{Sized, kept-ids, kept-control, event-control, kept-lengths, kept-hellos, kept-plain, start-fit, start-sized}
@@ -46,7 +47,7 @@ use Rattle.gate.specs.Write.{shut, writeBy}
 use Rattle.gate.specs.Laws.{FitCount, Fit, fit-is, is-fit, completed-length, more-few, Ready, ready}
 use Rattle.demands.specs.Numbers.{header-numbers, wire-numbers}
 use Rattle.demands.specs.Demand1.{next-number}
-use Rattle.demands.specs.Kept.{kept-front, held-as, same-held, whole-number}
+use Rattle.demands.specs.Kept.{held-as, same-held, whole-number}
 use Rattle.demands.specs.Cuts.{of-side, Both, Call, answerTo, next, final, heldBy, ends, verdict-ends}
 use Rattle.demands.specs.Calls.{Unfinished, header-ends}
 use Rattle.demands.specs.Demand3.{State, Starts}
@@ -245,7 +246,7 @@ module _ (x : Both) (d : Side) (piece : List ℕ) (h : Left x) where
         ids = h .fit .ids;
         control = h .fit .control;
         sized = record { places = h .sized .places; rows = h .sized .rows };
-        unfinished = ap (λ (k : ℕ). cutAt (linkOf d s) (take k (sets (x .hold d) (heldOf d s) piece))) m ∙ ap (cutAt (linkOf d s)) (kept-front (x .hold d) piece (heldOf d s) (omega (arith, r .room))) ∙ e;
+        unfinished = ap (λ (k : ℕ). cutAt (linkOf d s) (take k (sets (x .hold d) (heldOf d s) piece))) m ∙ ap (cutAt (linkOf d s)) (take-sets (x .hold d) piece (heldOf d s) (omega (arith, r .room))) ∙ e;
       }
 
   -- a call after which nothing is held in the direction
@@ -279,18 +280,10 @@ module _ (x : Both) (d : Side) (piece : List ℕ) (h : Left x) where
   unfolding nextFor eventOf
   other-hello Guest p =
       step (heldAs Guest 0 s) (eventOf Guest p) (λ (t : Session). t .host ≡ s .host) refl
-      (λ z. not-own (isHello (eventOf Guest p .class)) (keptHello (s .host) (eventOf Guest p .word)) (s .host))
-    where
-      not-own : (b : Bool) (k h : Hello) → cond (b && false) k h ≡ h
-      not-own true k h = refl
-      not-own false k h = refl
+      (λ z. rw (and-false (isHello (eventOf Guest p .class))))
   other-hello Host p =
       step (heldAs Host 0 s) (eventOf Host p) (λ (t : Session). t .guest ≡ s .guest) refl
-      (λ z. not-own (isHello (eventOf Host p .class)) (keptHello (s .guest) (eventOf Host p .word)) (s .guest))
-    where
-      not-own : (b : Bool) (k h : Hello) → cond (b && false) k h ≡ h
-      not-own true k h = refl
-      not-own false k h = refl
+      (λ z. rw (and-false (isHello (eventOf Host p .class))))
 
   own-hello : (d : Side) (p : Content) → passed (helloBy d s) ≡ true → helloBy d (judged (heldAs d 0 s) (eventOf d p) .session) ≡ helloBy d s
   own-hello Guest p q = kept-hellos (heldAs Guest 0 s) (eventOf Guest p) .guest q

@@ -7,7 +7,7 @@
 use Prim.Native.Nat.{ℕ, _+_, _-_, _≤_, _<_}
 use native.Mathlib.Omega.{arith}
 use mathlib.Core.Path.{_≡_, refl, sym, ap, subst, _∙_}
-use mathlib.Core.Bool.{Bool, true, false, cond, not, _&&_, _||_, true≢false, false≢true}
+use mathlib.Core.Bool.{Bool, true, false, cond, not, _&&_, _||_, true≢false, false≢true, and-false}
 use mathlib.Core.List.{List, [], _∷_, _++_}
 use mathlib.Core.Option.{Option, none}
 use lib.ListN.{length, take, drop, length-append, take-append-drop}
@@ -191,12 +191,8 @@ shuts from s p room =
         go true e = refl
         go false e = absurd (z (fit-is s e))
 
-    no : (b : Bool) → (b && false) ≡ false
-    no true = refl
-    no false = refl
-
     not-shut : ((p .kind ≡ 0 → ⊥) → ownPassed from s ≡ true → otherPassed from s ≡ true) → (isWaiting (linkOf from s) && not (eqb (p .kind) 0)) ≡ false
-    not-shut g = cases (eqb (p .kind) 0) (λ t. rw t (no (isWaiting (linkOf from s)))) (λ t. rw (t, not-waiting from s (g (λ z. true≢false (sym (ap (λ (m : ℕ). eqb m 0) z) ∙ t)))) refl)
+    not-shut g = cases (eqb (p .kind) 0) (λ t. rw t (and-false (isWaiting (linkOf from s)))) (λ t. rw (t, not-waiting from s (g (λ z. true≢false (sym (ap (λ (m : ℕ). eqb m 0) z) ∙ t)))) refl)
 
 -- ---- what a call leaves
 
@@ -351,10 +347,6 @@ kind-front b n h g =
     let c : length (take n b) ≡ n = length-take-le n b g in
     sym (le-front 4 (take n b) (drop n b) 0 (omega arith)) ∙ ap kindOf (take-append-drop n b)
 
-still : (b : Bool) → (b && false) ≡ false
-still true = refl
-still false = refl
-
 -- a session that goes on
 same : (t : Bool) (kind n : ℕ) → stopping kind n ≡ false → t ≡ (t || stopping kind n)
 same true kind n z = refl
@@ -365,7 +357,7 @@ going-on true x y z e = absurd (true≢false z)
 going-on false x y z e = e
 
 barred-still : (kind : ℕ) (from : Side) (s : Session) (hold : List ℕ) → stopping kind (barred from s hold) ≡ false
-barred-still kind = let y = still (eqb kind 0) in barred-numbers (λ m. stopping kind m ≡ false) (y, (y, (y, (y, (y, tt)))))
+barred-still kind = let y = and-false (eqb kind 0) in barred-numbers (λ m. stopping kind m ≡ false) (y, (y, (y, (y, (y, tt)))))
 
 -- a header that is refused
 header-stops : (l : Link) (b : List ℕ) (n kind : ℕ) → cutAt l b ≡ bad n → true ≡ stopping kind n
@@ -415,7 +407,7 @@ module _ (d : Side) (s : Session) (b : List ℕ) (n : ℕ) (e : cutAt (linkOf d 
       (λ t. rw (t, whole-number l b n e, ← kind-is) (refused-stops (λ z. true≢false (sym (ap (λ (m : ℕ). eqb m 0) (whole-number l b n e ∙ z)) ∙ t))))
     where
       y : (eqb (kindOf b) 0 && false) ≡ false
-      y = still (eqb (kindOf b) 0)
+      y = and-false (eqb (kindOf b) 0)
 
 -- barred and 1 stop nothing, a refused header always stops, and a whole packet as its verdict does
 pub stops : (from : Side) (s : Session) (hold piece : List ℕ)
@@ -428,6 +420,6 @@ stops from s hold piece =
   where
     goes : Ready from s hold → (c : Cut) → cutAt (linkOf from s) (heldBytes from s hold ++ piece) ≡ c
         → byCut from s hold piece c .session .stopped ≡ (s .stopped || stopping (kindOf (heldBytes from s hold ++ piece)) (byCut from s hold piece c .number))
-    goes r more e = same (s .stopped) (kindOf (heldBytes from s hold ++ piece)) 1 (still (eqb (kindOf (heldBytes from s hold ++ piece)) 0))
+    goes r more e = same (s .stopped) (kindOf (heldBytes from s hold ++ piece)) 1 (and-false (eqb (kindOf (heldBytes from s hold ++ piece)) 0))
     goes r (bad n) e = going-on (s .stopped) _ _ (r .running) (header-stops (linkOf from s) (heldBytes from s hold ++ piece) n (kindOf (heldBytes from s hold ++ piece)) e)
     goes r (whole n) e = going-on (s .stopped) _ _ (r .running) (verdict-stops from s (heldBytes from s hold ++ piece) n e (r .running))

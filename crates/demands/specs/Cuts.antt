@@ -14,6 +14,7 @@ use lib.Seq.{length-take-le, take-at, take-length, drop-append-seam}
 use lib.Dec.{eqb}
 use borrow.Author.Tests.{eqb-true, ne-eqb, le-ltb}
 use borrow.Table.Steps.{cases}
+use Rattle.number.specs.Laws.{take-sets}
 use Rattle.header.specs.declared.Side.{Side}
 use Rattle.header.specs.declared.Side.the-variants.{Guest, Host}
 use Rattle.header.specs.declared.Link.{Link}
@@ -39,7 +40,7 @@ use Rattle.gate.specs.Offer.{heldOf, heldAs, heldBytes, barred, Outcome, unmove
 use Rattle.gate.specs.Laws.{front-is, more-few, whole-here, header-here, Ready, ready}
 use Rattle.demands.specs.Numbers.{header-numbers, barred-numbers}
 use Rattle.demands.specs.Demand1.{demand-1}
-use Rattle.demands.specs.Kept.{verdict-numbers, kept-front, header-behind, header-front}
+use Rattle.demands.specs.Kept.{verdict-numbers, header-behind, header-front}
 
 -- ---- runs of reader calls
 
@@ -243,10 +244,10 @@ kept-ends-none x d piece h = record { ends-none = refl; same = bare-held d (held
   where
     behind-held : (d : Side) → heldOf d (x .session) + length piece ≤ length (x .hold d) → (e : Side)
         → heldAfter x d (kept d (x .session) (x .hold d) piece) e ≡ heldBy x e ++ of-side d (take (length piece) piece) (λ i. []) e
-    behind-held Guest h Guest = kept-front (x .hold Guest) piece (x .session .held .guest) h ∙ ap (λ (p : List ℕ). heldBy x Guest ++ p) (sym (take-length piece))
+    behind-held Guest h Guest = take-sets (x .hold Guest) piece (x .session .held .guest) h ∙ ap (λ (p : List ℕ). heldBy x Guest ++ p) (sym (take-length piece))
     behind-held Guest h Host = sym (append-nil (heldBy x Host))
     behind-held Host h Guest = sym (append-nil (heldBy x Guest))
-    behind-held Host h Host = kept-front (x .hold Host) piece (x .session .held .host) h ∙ ap (λ (p : List ℕ). heldBy x Host ++ p) (sym (take-length piece))
+    behind-held Host h Host = take-sets (x .hold Host) piece (x .session .held .host) h ∙ ap (λ (p : List ℕ). heldBy x Host ++ p) (sym (take-length piece))
 
 -- what the verdict leaves held
 pub verdict-held : (s : Session) (from : Side) (b : List ℕ) → verdictOf s from b .session .held ≡ s .held

@@ -4,7 +4,7 @@
 use Prim.Native.Nat.{ℕ, _+_, _-_, _≤_}
 use native.Mathlib.Omega.{arith}
 use mathlib.Core.Path.{_≡_, refl, sym, ap, subst, _∙_}
-use mathlib.Core.Bool.{Bool, true, false, cond, _&&_, true≢false}
+use mathlib.Core.Bool.{Bool, true, false, cond, true≢false, and-false}
 use mathlib.Core.List.{List, [], _∷_, _++_}
 use mathlib.Core.Option.{Option, none, some}
 use mathlib.Core.Logic.{inl, inr}
@@ -12,6 +12,7 @@ use lib.ListN.{length, take, drop}
 use lib.Seq.{sets, length-sets, length-take-le, take-append-seam}
 use lib.Dec.{eqb}
 use borrow.Author.Tests.{ne-eqb, le-ltb}
+use Rattle.number.specs.Laws.{take-sets}
 use Rattle.header.specs.declared.Side.{Side}
 use Rattle.header.specs.declared.Side.the-variants.{Guest, Host}
 use Rattle.header.specs.declared.Link.{Link}
@@ -37,7 +38,7 @@ use Rattle.encoder.specs.declared.Written.{Written}
 use Rattle.gate.specs.Write.{shut, writeBy, output, outputSize, WritesBy}
 use Rattle.gate.specs.Laws.{completed-length, more-few, Ready, not-barred, fit-is, is-fit, held-few}
 use Rattle.demands.specs.Numbers.{Each, session-numbers}
-use Rattle.demands.specs.Kept.{kept-front, held-as, same-held, Established, Keeps, offer-keeps}
+use Rattle.demands.specs.Kept.{held-as, same-held, Established, Keeps, offer-keeps}
 
 -- ---- the reader of a direction
 
@@ -141,11 +142,7 @@ opposite-twice Host = refl
 
 -- with both hellos passed no direction waits
 not-waiting : (from : Side) (s : Session) → Established s → isWaiting (linkOf from s) ≡ false
-not-waiting from s h = rw (h .guest, h .host) (neither (passed (own (linkOf from s))))
-  where
-    neither : (b : Bool) → (b && false) ≡ false
-    neither true = refl
-    neither false = refl
+not-waiting from s h = rw (h .guest, h .host) (and-false (passed (own (linkOf from s))))
 
 -- a state from which the direction can be read
 is-ready : (from : Side) (x : State) → Open usbredir (reader from) x → Ready from (x .session) (x .hold)
@@ -197,7 +194,7 @@ part-call from x piece o e =
     let r : Ready from s (x .hold) = is-ready from x o in
     let few = more-few (linkOf from s) (x .hold) piece (heldOf from s) (r .room) (held-few from s (r .fit)) e in
     let q : offerOf from s (x .hold) piece ≡ kept from s (x .hold) piece = offer-open from s (x .hold) piece r ∙ ap (byCut from s (x .hold) piece) e in
-    let f : take (heldOf from s + length piece) (sets (x .hold) (heldOf from s) piece) ≡ heldBytes from s (x .hold) ++ piece = kept-front (x .hold) piece (heldOf from s) (omega (arith, r .room)) in
+    let f : take (heldOf from s + length piece) (sets (x .hold) (heldOf from s) piece) ≡ heldBytes from s (x .hold) ++ piece = take-sets (x .hold) piece (heldOf from s) (omega (arith, r .room)) in
     record {
       number = ap (λ (p : Outcome). p .number) q;
       taken = ap (λ (p : Outcome). p .taken) q;

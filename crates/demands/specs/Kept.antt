@@ -4,13 +4,13 @@
 -- packet, the judge keeps these (`claims/specs/Kept.antt`). A count of at most 32,783 is all that is owed, since neither end waits.
 -- A header is decided by its own bytes (`header-front`), so that a whole packet gets the number of what it says (`whole-number`).
 -- Assumes nothing.
-use Prim.Native.Nat.{ℕ, _+_, _-_, _≤_}
+use Prim.Native.Nat.{ℕ, _+_, _≤_}
 use native.Mathlib.Omega.{arith}
 use mathlib.Core.Path.{_≡_, refl, sym, ap, subst, _∙_}
 use mathlib.Core.Bool.{Bool, true, false, cond, true≢false}
 use mathlib.Core.List.{List, [], _∷_, _++_}
 use lib.ListN.{length, take, drop, take-append-drop}
-use lib.Seq.{sets, length-take-le, take-length}
+use lib.Seq.{length-take-le}
 use lib.Dec.{eqb}
 use borrow.Author.Tests.{eqb-true, eq-eqb, le-ltb}
 use borrow.Table.Steps.{cases}
@@ -34,8 +34,8 @@ use Rattle.roundtrip.specs.Told.{IsWhole, whole-is}
 use Rattle.wire.specs.Wire.{usbredir, laws}
 use Rattle.frame.specs.Frame.{headSize, headNumber, cutAt}
 use Rattle.verdict.specs.Verdict.{stoppedNow, refusedAs, verdictOf}
-use Rattle.gate.specs.Offer.{heldOf, heldAs, heldBytes, barred, byCut, offerOf, Whole}
-use Rattle.gate.specs.Laws.{completed-front, FitCount, Fit, Ready, ready, more-few, held-few}
+use Rattle.gate.specs.Offer.{heldOf, heldAs, heldBytes, barred, byCut, offerOf}
+use Rattle.gate.specs.Laws.{FitCount, Fit, Ready, ready, more-few, held-few}
 use Rattle.demands.specs.Numbers.{Each, wire-numbers, session-numbers}
 
 -- ---- a header is decided by its own bytes
@@ -81,15 +81,6 @@ verdict-numbers P w j d s b n e =
     cases (eqb (readNumber (linkOf d s) (take n b)) 0)
     (λ t. rw t (session-numbers P j s (eventOf d (decode (linkOf d s) (take n b)))))
     (λ t. rw t (subst P (sym (whole-number (linkOf d s) b n e)) (wire-numbers P w (linkOf d s) (decode (linkOf d s) (take n b)))))
-
--- ---- a piece that is kept stands behind what is held
-
-pub kept-front : (hold piece : List ℕ) (held : ℕ) → held + length piece ≤ length hold → take (held + length piece) (sets hold held piece) ≡ take held hold ++ piece
-kept-front hold piece held h =
-    let w : Whole hold piece held (held + length piece) = record { room = h; begun = omega arith; there = omega arith } in
-    let m : held + length piece - held ≡ length piece = omega arith in
-    subst (λ (p : List ℕ). take (held + length piece) (sets hold held p) ≡ take held hold ++ p) (ap (λ (k : ℕ). take k piece) m ∙ take-length piece)
-    (completed-front hold piece held (held + length piece) w)
 
 -- ---- the held counts
 

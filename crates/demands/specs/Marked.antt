@@ -19,7 +19,7 @@ use Rattle.header.specs.declared.Hello.the-variants.{Passed}
 use Rattle.header.specs.Link.{sharedSet, idWidth}
 use Rattle.header.specs.Header.{headerSize, headerBytes, headerNumber}
 use Rattle.kinds.specs.Table.{kinds}
-use Rattle.kinds.specs.Content.{one, Content}
+use Rattle.kinds.specs.Content.{one, Content, packetOf}
 use Rattle.kinds.specs.Codec.{layout, contentAt, decode, encode, readNumber, packetNumber, writeNumber, written, writtenSize}
 use Rattle.kinds.specs.Number.{bad, kindNumber, wireNumber}
 use Rattle.scan.specs.Scan.{firstAt, exists, anyAt, eachAt}
@@ -28,7 +28,6 @@ use Rattle.device.specs.Device.{bulk, startRows, startDevice, replaced, streamT
 use Rattle.requests.specs.declared.Place.{Place}
 use Rattle.requests.specs.Requests.{freshRequests, taken, idsDiffer, lowest, withPlace, released}
 use Rattle.requests.specs.Ids.{distinct, liveIds}
-use Rattle.kinds.specs.Examples.{packet}
 use Rattle.events.specs.Meaning.{meanings}
 use Rattle.events.specs.Event.{meaningOf, eventOf}
 use Rattle.checks.specs.Checks.{matchOf, numberFor}
@@ -90,11 +89,11 @@ put word from p = take (outputSize from (connected word .session) p 64) (output 
 -- ---- packets
 
 abbrev getConfiguration : ℕ → Content
-getConfiguration id = packet 7 id [] []
+getConfiguration id = packetOf 7 id [] []
 
 -- a bulk packet on an endpoint, without bit 6
 abbrev bulkPacket : ℕ → ℕ → ℕ → List ℕ → Content
-bulkPacket id e n rest = packet 101 id (one e ∷ one 0 ∷ one n ∷ one 0 ∷ none ∷ []) rest
+bulkPacket id e n rest = packetOf 101 id (one e ∷ one 0 ∷ one n ∷ one 0 ∷ none ∷ []) rest
 
 -- "bulk OUT endpoint 2, id 9, no bit 6, data AA BB", and "its reply"
 abbrev m3 : List ℕ

@@ -27,6 +27,9 @@ pub record Content : Type 0 where
   pub fields : List Value
   pub rest : List ℕ
 
+abbrev pub packetOf : ℕ → ℕ → List Value → List ℕ → Content
+packetOf kind id fields rest = record { kind = kind; id = id; fields = fields; rest = rest }
+
 -- ---- the layout of a body
 
 -- bits that are in a set of capabilities

@@ -16,7 +16,7 @@ use Rattle.header.specs.declared.Link.{Link}
 use Rattle.number.specs.Bits.{hasBit}
 use Rattle.header.specs.Link.{sharedSet, idWidth}
 use Rattle.kinds.specs.Table.{Bits, always, bit, bits, Field, Tail, nothing, words, string, payload, payload-onward, Kind, kinds, kindAt}
-use Rattle.kinds.specs.Content.{Value, one, Content, shared, size}
+use Rattle.kinds.specs.Content.{Value, one, Content, shared, size, packetOf}
 use Rattle.header.specs.Header.{headerSize, headerBytes, headerNumber}
 use Rattle.kinds.specs.Number.{dataLength, bad, kindNumber, wireNumber}
 use Rattle.kinds.specs.Codec.{layout, encode, packetNumber, writeNumber, written, writtenSize}
@@ -104,9 +104,6 @@ spelt = (refl, refl, refl)
 
 -- ---- numbers
 
-abbrev pub packet : ℕ → ℕ → List Value → List ℕ → Content
-packet kind id fields rest = record { kind = kind; id = id; fields = fields; rest = rest }
-
 -- the number of a packet where both hellos have passed and offered these
 abbrev number : Side → ℕ → Content → ℕ
 number from caps p = wireNumber (record { sender = from; guest = Passed caps; host = Passed caps }) p
@@ -121,55 +118,55 @@ lone caps p = wireNumber (record { sender = Guest; guest = Passed caps; host = A
 
 -- a hello whose version is 64 times x
 abbrev hello : ℕ → List ℕ → Content
-hello x s = packet 0 0 (some (replicate 64 x) ∷ []) s
+hello x s = packetOf 0 0 (some (replicate 64 x) ∷ []) s
 
 abbrev connect : ℕ → Value → Content
-connect speed version = packet 1 0 (one speed ∷ one 0 ∷ one 0 ∷ one 0 ∷ one 0 ∷ one 0 ∷ version ∷ []) []
+connect speed version = packetOf 1 0 (one speed ∷ one 0 ∷ one 0 ∷ one 0 ∷ one 0 ∷ one 0 ∷ version ∷ []) []
 
 abbrev rows : Value
 rows = some (replicate 32 0)
 
 -- an endpoint table with this type in row 17
 abbrev table : ℕ → Value → Value → Content
-table type packets streams = packet 5 0 (some (set (replicate 32 0) 17 type) ∷ rows ∷ rows ∷ packets ∷ streams ∷ []) []
+table type packets streams = packetOf 5 0 (some (set (replicate 32 0) 17 type) ∷ rows ∷ rows ∷ packets ∷ streams ∷ []) []
 
 abbrev control : ℕ → ℕ → Content
-control requesttype status = packet 100 3 (one 0 ∷ one 6 ∷ one requesttype ∷ one status ∷ one 0 ∷ one 0 ∷ one 0 ∷ []) []
+control requesttype status = packetOf 100 3 (one 0 ∷ one 6 ∷ one requesttype ∷ one status ∷ one 0 ∷ one 0 ∷ one 0 ∷ []) []
 
 abbrev bulk : ℕ → Value → List ℕ → Content
-bulk stream high s = packet 101 9 (one 2 ∷ one 0 ∷ one 2 ∷ one stream ∷ high ∷ []) s
+bulk stream high s = packetOf 101 9 (one 2 ∷ one 0 ∷ one 2 ∷ one stream ∷ high ∷ []) s
 
-pub passing : (number Guest 0 (packet 7 7 [] []) ≡ 0)
+pub passing : (number Guest 0 (packetOf 7 7 [] []) ≡ 0)
     × (number Guest 0 (bulk 0 none (170 ∷ 187 ∷ [])) ≡ 0)
     × (number Host 0 (bulk 0 none []) ≡ 0)
     × (first (hello 0 (17 ∷ 0 ∷ 0 ∷ 0 ∷ [])) ≡ 0)
-    × (number Host 0 (packet 8 1 (one 6 ∷ one 1 ∷ []) []) ≡ 0)
+    × (number Host 0 (packetOf 8 1 (one 6 ∷ one 1 ∷ []) []) ≡ 0)
     × (number Guest 0 (control 0 255) ≡ 0)
     × (number Host 2 (connect 255 (one 0)) ≡ 0)
     × (number Host 17 (table 255 rows rows) ≡ 0)
     × (number Guest 1 (bulk 5 none (170 ∷ 187 ∷ [])) ≡ 0)
-    × (number Guest 32 (packet 7 4294967296 [] []) ≡ 0)
+    × (number Guest 32 (packetOf 7 4294967296 [] []) ≡ 0)
 unfolding sharedSet idWidth wireNumber kindNumber bad kinds
 passing = (refl, refl, refl, refl, refl, refl, refl, refl, refl, refl)
 
-pub refused : (number Guest 0 (packet 28 0 [] []) ≡ 20)
-    × (number Host 0 (packet 7 0 [] []) ≡ 21)
-    × (number Guest 0 (packet 22 0 [] []) ≡ 22)
+pub refused : (number Guest 0 (packetOf 28 0 [] []) ≡ 20)
+    × (number Host 0 (packetOf 7 0 [] []) ≡ 21)
+    × (number Guest 0 (packetOf 22 0 [] []) ≡ 22)
     × (number Host 0 (connect 0 (one 0)) ≡ 22)
     × (number Host 16 (table 0 rows rows) ≡ 22)
     × (number Guest 0 (bulk 0 (one 1) (170 ∷ 187 ∷ [])) ≡ 22)
-    × (lone 32 (packet 7 4294967296 [] []) ≡ 22)
-    × (number Guest 0 (packet 7 7 [] (1 ∷ [])) ≡ 23)
+    × (lone 32 (packetOf 7 4294967296 [] []) ≡ 22)
+    × (number Guest 0 (packetOf 7 7 [] (1 ∷ [])) ≡ 23)
     × (number Guest 0 (bulk 0 none (170 ∷ [])) ≡ 23)
     × (number Host 0 (bulk 0 none (170 ∷ 187 ∷ [])) ≡ 23)
-    × (number Guest 64 (packet 101 9 (one 2 ∷ one 0 ∷ one 65535 ∷ one 0 ∷ one 65535 ∷ []) []) ≡ 23)  -- a count of 4,294,967,295
-    × (number Guest 4 (packet 23 0 [] []) ≡ 23)
+    × (number Guest 64 (packetOf 101 9 (one 2 ∷ one 0 ∷ one 65535 ∷ one 0 ∷ one 65535 ∷ []) []) ≡ 23)  -- a count of 4,294,967,295
+    × (number Guest 4 (packetOf 23 0 [] []) ≡ 23)
     × (number Host 2 (connect 4 (one 0)) ≡ 24)
-    × (number Host 0 (packet 8 1 (one 7 ∷ one 1 ∷ []) []) ≡ 24)
-    × (number Guest 0 (packet 12 5 (one 18 ∷ one 1 ∷ one 1 ∷ []) []) ≡ 24)
-    × (number Guest 1 (packet 18 1 (one 0 ∷ one 0 ∷ []) []) ≡ 24)
+    × (number Host 0 (packetOf 8 1 (one 7 ∷ one 1 ∷ []) []) ≡ 24)
+    × (number Guest 0 (packetOf 12 5 (one 18 ∷ one 1 ∷ one 1 ∷ []) []) ≡ 24)
+    × (number Guest 1 (packetOf 18 1 (one 0 ∷ one 0 ∷ []) []) ≡ 24)
     × (number Guest 0 (bulk 5 none (170 ∷ 187 ∷ [])) ≡ 24)
-    × (number Guest 4 (packet 23 0 [] (0 ∷ 48 ∷ [])) ≡ 24)
+    × (number Guest 4 (packetOf 23 0 [] (0 ∷ 48 ∷ [])) ≡ 24)
     × (first (hello 1 []) ≡ 24)
     × (first (hello 0 (1 ∷ 0 ∷ 0 ∷ 0 ∷ [])) ≡ 13)
 unfolding sharedSet idWidth wireNumber kindNumber bad kinds
@@ -177,14 +174,14 @@ refused = (refl, refl, refl, refl, refl, refl, refl, refl, refl, refl, refl, ref
 
 -- a filter reject that breaks the rule of the id, and one byte too long
 abbrev reject : Content
-reject = packet 22 1 [] (1 ∷ [])
+reject = packetOf 22 1 [] (1 ∷ [])
 
 -- "Where several hold, the lowest from 20 up is given"; "A hello refused with 23, 24 or 13 (that order)"
 pub lowest : (number Host 0 reject ≡ 21)
     × (number Guest 0 reject ≡ 22)
     × (number Guest 4 reject ≡ 23)
-    × (number Guest 4 (packet 22 1 [] []) ≡ 24)
-    × (number Guest 4 (packet 22 0 [] []) ≡ 0)
+    × (number Guest 4 (packetOf 22 1 [] []) ≡ 24)
+    × (number Guest 4 (packetOf 22 0 [] []) ≡ 0)
     × (first (hello 1 (1 ∷ 0 ∷ 0 ∷ 0 ∷ 0 ∷ [])) ≡ 23)
     × (first (hello 1 (1 ∷ 0 ∷ 0 ∷ 0 ∷ [])) ≡ 24)
     × (first (hello 0 (replicate 32 0)) ≡ 0)
@@ -197,11 +194,11 @@ lowest = (refl, refl, refl, refl, refl, refl, refl, refl, refl)
 pub places : (bad Host 17 (kindAt 5) (table 4 rows rows) ≡ some 17)
     × (bad Host 0 (kindAt 28) (control 128 7) ≡ some 2)
     × (bad Host 0 (kindAt 28) (control 0 7) ≡ some 3)
-    × (bad Host 0 (kindAt 2) (packet 2 1 [] []) ≡ some 65535)
-    × (bad Host 0 (kindAt 2) (packet 2 0 [] []) ≡ none)
+    × (bad Host 0 (kindAt 2) (packetOf 2 1 [] []) ≡ some 65535)
+    × (bad Host 0 (kindAt 2) (packetOf 2 0 [] []) ≡ none)
     × (bad Host 2 (kindAt 1) (connect 0 none) ≡ some 8)
-    × (bad Host 0 (kindAt 1) (packet 1 1 (one 4 ∷ one 0 ∷ one 0 ∷ one 0 ∷ one 0 ∷ one 0 ∷ none ∷ []) []) ≡ some 0)
-    × (bad Guest 0 (kindAt 0) (packet 0 1 (some (replicate 64 1) ∷ []) []) ≡ some 0)
+    × (bad Host 0 (kindAt 1) (packetOf 1 1 (one 4 ∷ one 0 ∷ one 0 ∷ one 0 ∷ one 0 ∷ one 0 ∷ none ∷ []) []) ≡ some 0)
+    × (bad Guest 0 (kindAt 0) (packetOf 0 1 (some (replicate 64 1) ∷ []) []) ≡ some 0)
     × (bad Host 16 (kindAt 5) (table 0 none none) ≡ some 96)
     × (bad Host 17 (kindAt 5) (table 0 rows none) ≡ some 160)
 unfolding bad kinds
@@ -213,16 +210,16 @@ places = (refl, refl, refl, refl, refl, refl, refl, refl, refl, refl)
 abbrev writing : Side → ℕ → ℕ → Content → ℕ
 writing from caps room p = writeNumber (record { sender = from; guest = Passed caps; host = Passed caps }) p room
 
-pub writer : (writing Guest 0 12 (packet 7 7 [] []) ≡ 0)
-    × (writing Guest 0 11 (packet 7 7 [] []) ≡ 40)
-    × (writing Guest 32 15 (packet 7 7 [] []) ≡ 40)  -- 64-bit ids
+pub writer : (writing Guest 0 12 (packetOf 7 7 [] []) ≡ 0)
+    × (writing Guest 0 11 (packetOf 7 7 [] []) ≡ 40)
+    × (writing Guest 32 15 (packetOf 7 7 [] []) ≡ 40)  -- 64-bit ids
     × (writing Host 0 0 (connect 0 (one 0)) ≡ 22)  -- and no room: 22 before 40
     × (writing Host 2 0 (connect 0 none) ≡ 24)  -- missing though shared: 24 and not 23
     × (writing Guest 0 0 (bulk 0 (one 1) (170 ∷ 187 ∷ [])) ≡ 22)  -- a count of 65,538
-    × (writing Guest 0 0 (packet 7 4294967296 [] []) ≡ 22)
-    × (writing Guest 0 0 (packet 22 4294967296 [] []) ≡ 22)
+    × (writing Guest 0 0 (packetOf 7 4294967296 [] []) ≡ 22)
+    × (writing Guest 0 0 (packetOf 22 4294967296 [] []) ≡ 22)
     × (writing Guest 0 0 (hello 0 []) ≡ 12)
-    × (first (packet 0 4294967296 (some (replicate 64 0) ∷ []) []) ≡ 24)  -- a hello's id has to be 0, however wide it is
+    × (first (packetOf 0 4294967296 (some (replicate 64 0) ∷ []) []) ≡ 24)  -- a hello's id has to be 0, however wide it is
     × (writing Guest 0 0 (bulk 0 none (replicate 32760 0)) ≡ 23)
     × (writing Guest 0 0 (bulk 0 none (replicate 32761 0)) ≡ 10)
 unfolding sharedSet idWidth headerSize headerBytes headerNumber layout encode packetNumber writeNumber wireNumber kindNumber bad kinds

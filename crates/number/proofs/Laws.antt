@@ -3,18 +3,19 @@
 -- A turn makes the count that is left a successor, and `le`, `bytesOf` or `sets` computes one step. The others go by induction over the count and
 -- the list: past the end there is nothing to take, to drop or to change.
 -- Assumes nothing.
-use mathlib.Core.Path.{_≡_, refl, sym, ap, _∙_}
+use mathlib.Core.Path.{_≡_, sym, ap, _∙_}
 use mathlib.Core.List.{List, [], _∷_}
 use Prim.Native.Nat.{ℕ, zero, suc, _+_, _-_, _*_, _/_, _%_, _^_, _≤_, _<_, min}
 use native.Mathlib.Nat.{pow-suc, pow-le-pow-right, zero-lt-suc, zero-min, min-zero, suc-min-suc}
 use native.Mathlib.Numerals.{add-one}
 use native.Mathlib.Omega.{arith}
 use lib.ListN.{length, getD, set, take, drop, length-take, drop-of-length-le}
-use lib.Seq.{sets, slice, drop-cons, set-out}
+use lib.Seq.{sets, slice, drop-cons}
 use lib.Dec.{leb}
 use borrow.Author.Tests.{leb-true, leb-false}
 use borrow.Table.Steps.{cases}
 use Rattle.number.specs.Little.{le, bytesOf}
+use Rattle.number.specs.Laws.{sets-out}
 
 -- one byte more, in front
 pub le-step : (s : List ℕ) (at n i : ℕ) → 0 < i → i ≤ n
@@ -50,11 +51,6 @@ pub lay-step : (out s : List ℕ) (at i : ℕ) → i < length s
 lay-step out s at i h =
     let e : suc (at + i) ≡ at + (i + 1) = omega arith in
     rw (drop-cons s i 0) (ap (λ (m : ℕ). sets (set out (at + i) (getD s i 0)) m (drop (suc i) s)) e ∙ ap (λ (m : ℕ). sets (set out (at + i) (getD s i 0)) (at + (i + 1)) (drop m s)) (sym (add-one i)))
-
--- what is laid behind the end changes nothing
-pub sets-out : (out s : List ℕ) (at : ℕ) → length out ≤ at → sets out at s ≡ out
-sets-out out [] at h = refl
-sets-out out (x ∷ s) at h = rw (set-out out at x h) (sets-out out s (suc at) (omega arith))
 
 -- so nothing is left to be laid once i is as many as there are, or as there is room for
 pub lay-none : (out s : List ℕ) (at i : ℕ) → min (length s) (length out - at) ≤ i → sets out (at + i) (drop i s) ≡ out

@@ -1,15 +1,16 @@
 -- The laws of numbers in bytes, each over the width: what is written is read back (`le-bytes`), behind other bytes (`le-shift`, `le-drop`) and
--- before them (`le-front`), and n bytes spell a number below 256 to the n (`le-lt`). Two runs of stores are one (`sets-append`).
+-- before them (`le-front`), and n bytes spell a number below 256 to the n (`le-lt`). Of stores into a list and of parts of one: two runs of stores
+-- are one (`sets-append`), and a part can be cut out from either end first (`drop-take`).
 -- By induction over the width: the first byte is the remainder by 256, and those behind it spell the quotient. What stands in front is taken off
--- byte by byte (`le-cons`); runs of stores go by induction over the first.
+-- byte by byte (`le-cons`); runs of stores and parts go by induction over the first.
 -- Assumes nothing.
 use mathlib.Core.Path.{_≡_, refl, sym, ap, ap₂, _∙_}
 use mathlib.Core.List.{List, [], _∷_, _++_}
 use Prim.Native.Nat.{ℕ, zero, suc, _+_, _-_, _*_, _/_, _%_, _^_, _≤_, _<_}
 use native.Mathlib.Nat.{pow-suc, zero-add, suc-add, add-suc, add-zero, sub-zero, zero-sub, suc-sub-suc}
 use native.Mathlib.Omega.{arith}
-use lib.ListN.{length, getD, set, drop, List·getD-append, take}
-use lib.Seq.{sets, getD-drop, take-nil}
+use lib.ListN.{length, getD, set, drop, List·getD-append, take, length-append}
+use lib.Seq.{sets, getD-drop, take-nil, set-out, sets-eq, length-take-le, take-at}
 use lib.Dec.{lit<}
 use Rattle.number.specs.Little.{le, bytesOf}
 
@@ -48,6 +49,18 @@ sets-append l i [] ys = rw add-zero
 sets-append l i (x ∷ xs) ys =
     let e : suc i + length xs ≡ i + suc (length xs) = omega arith in
     sets-append (set l i x) (suc i) xs ys ∙ ap (λ (m : ℕ). sets (sets (set l i x) (suc i) xs) m ys) e
+
+-- past the end nothing is stored
+pub sets-out : (l xs : List ℕ) (i : ℕ) → length l ≤ i → sets l i xs ≡ l
+sets-out l [] i h = refl
+sets-out l (x ∷ xs) i h = rw (set-out l i x h) (sets-out l xs (suc i) (omega arith))
+
+-- what is stored behind the front of a list follows it
+pub take-sets : (l xs : List ℕ) (i : ℕ) → i + length xs ≤ length l → take (i + length xs) (sets l i xs) ≡ take i l ++ xs
+take-sets l xs i h =
+    let n : length (take i l ++ xs) ≡ i + length xs = omega (arith, length-append (take i l) xs, length-take-le i l (omega arith)) in
+    ap (take (i + length xs)) (sets-eq xs l i h)
+    ∙ take-at (take i l ++ xs) (drop (i + length xs) l) (i + length xs) n
 
 -- what is read behind a place is read as if that were the first
 pub le-drop : (n k : ℕ) (s : List ℕ) (at : ℕ) → le n (drop k s) at ≡ le n s (k + at)

@@ -11,7 +11,7 @@ use mathlib.Core.Bool.{Bool, true, false, cond, not, _&&_, _||_, and-true, or-fa
 use mathlib.Core.Logic.{_⊎_, inl, inr}
 use mathlib.Core.List.{List, [], _∷_, _++_, append-nil}
 use lib.ListN.{length, getD, set, take, drop, length-take, length-drop, drop-of-length-le}
-use lib.Seq.{sets, sets-eq, length-sets, length-take-le, take-all, take-at, take-take, take-suc, getD-drop, getD-set-other}
+use lib.Seq.{sets, sets-eq, length-sets, length-take-le, take-at, take-take, take-suc, getD-drop, getD-set-other}
 use lib.Dec.{T, eqb, ltb}
 use borrow.Author.Tests.{lt-ltb, le-ltb, ltb-false, eqb-true, eqb-false, eq-eqb, ne-eqb}
 use borrow.Rule.Slice.PartMut.{putMid, take-put}
@@ -20,6 +20,7 @@ use lib.Signed.{ltZ, nonNeg}
 use mir.Syntax.{w64}
 use mir.Val.{Fits as Holds, SFits, toZ, ofZ}
 use mir.ValLaws.{toZ-ofZ}
+use borrow.Rule.Slice.PartAt.{part-to-end}
 use Rattle.number.specs.Laws.{sets-append}
 use Rattle.capture.specs.Lines.{lineOf}
 use Rattle.transcript.specs.declared.Lined.{Lined}
@@ -104,9 +105,8 @@ sets-behind (suc a) (x ∷ l) xs h = ap (λ (m : List ℕ). x ∷ m) (sets-behin
 pub sets-part : (a : ℕ) (l xs : List ℕ) → a ≤ length l → putMid a (length l - a) l (sets (take (length l - a) (drop a l)) 0 xs) ≡ sets l a xs
 sets-part a l xs h =
     let n : length (drop a l) ≤ length l - a = omega (arith, length-drop a l) in
-    let t : take (length l - a) (drop a l) ≡ drop a l = take-all (length l - a) (drop a l) n in
     let d : drop (length l - a) (drop a l) ≡ [] = drop-of-length-le (drop a l) n in
-    rw (t, d, append-nil (sets (drop a l) 0 xs)) (sets-behind a l xs h)
+    rw (part-to-end l a, d, append-nil (sets (drop a l) 0 xs)) (sets-behind a l xs h)
 
 -- ---- the program's steps
 
@@ -190,10 +190,6 @@ pub run-goes : {m n o : Memory} (left : ℕ) → 0 < left → left ≤ 184467440
 run-goes left h w t e s =
     let q : 18446744073709551615 - (left - 1) ≡ suc (18446744073709551615 - left) = omega arith in
     rw q (turn t e s)
-
-pub not-over : (b : Bool) → not b ≡ true → b ≡ false
-not-over true e = absurd (false≢true e)
-not-over false e = refl
 
 pub run-ends : (left : ℕ) (b : Bool) → (ltb 0 left && not b) ≡ false → (b ≡ true) ⊎ (18446744073709551615 - left ≡ 18446744073709551615)
 run-ends left true e = inl refl

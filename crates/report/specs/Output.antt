@@ -9,11 +9,11 @@ use native.Mathlib.Omega.{arith}
 use mathlib.Core.Path.{_≡_, refl, sym, ap, _∙_}
 use mathlib.Core.Bool.{Bool, true, false, cond, _&&_, _||_, false≢true}
 use mathlib.Core.List.{List, [], _++_, append-assoc, append-nil}
-use lib.ListN.{length, take, drop, length-take, length-append, take-append-drop}
-use lib.Seq.{sets, sets-eq, length-sets, length-take-le, take-at, take-take, drop-drop}
+use lib.ListN.{length, take, drop, length-take, take-append-drop}
+use lib.Seq.{length-sets, take-take, drop-drop}
 use lib.Dec.{ltb}
 use borrow.Author.Tests.{ltb-true, ltb-false}
-use Rattle.number.specs.Laws.{drop-take}
+use Rattle.number.specs.Laws.{drop-take, take-sets}
 use Rattle.capture.specs.Laws.{totals-short}
 use Rattle.transcript.specs.declared.Next.the-variants.{Line}
 use Rattle.transcript.specs.Input.{Progress, linesOf, totalsOf, outputFrom, outputOf, nextOf, start as started}
@@ -73,13 +73,6 @@ bad-over (step-read e l q g h o) t = absurd (false≢true t)
 
 -- ---- lists
 
--- what is stored behind the front of a list follows it
-stored-behind : (l xs : List ℕ) (i : ℕ) → i + length xs ≤ length l → take (i + length xs) (sets l i xs) ≡ take i l ++ xs
-stored-behind l xs i h =
-    let n : length (take i l ++ xs) ≡ i + length xs = omega (arith, length-append (take i l) xs, length-take-le i l (omega arith)) in
-    ap (take (i + length xs)) (sets-eq xs l i h)
-    ∙ take-at (take i l ++ xs) (drop (i + length xs) l) (i + length xs) n
-
 -- the bytes behind a line and its newline
 behind-line : (l : List ℕ) (a b k : ℕ) → drop (suc k) (take (b - a) (drop a l)) ≡ take (b - min (a + k + 1) b) (drop (min (a + k + 1) b) l)
 behind-line l a b k = drop-take (suc k) (b - a) (drop a l) ∙ go (ltb b (a + k + 1)) refl
@@ -125,7 +118,7 @@ module _ {m n : Memory} (f : Fits (m .state)) (lo : length (m .out) ≡ 262144) 
       let first : outputFrom (progressOf m) (linesOf (b ++ more)) ≡ g .prints ++ toCome (g .bad) n more
       = first-line (progressOf m) more b (p .last) e (λ t. none-behind (q .last ∙ t)) ∙ rw (line, rest, q .next) in
       let laid : take (sizeWith p k (m .guest) (m .host) (m .input)) (n .out) ≡ pending m ++ g .prints
-      = rw (q .output) (stored-behind (m .out) (g .prints) (p .size) (omega (arith, lo, f .room, prints-short (progressOf m) (take k (drop (p .start) (m .input)))))) in
+      = rw (q .output) (take-sets (m .out) (g .prints) (p .size) (omega (arith, lo, f .room, prints-short (progressOf m) (take k (drop (p .start) (m .input)))))) in
       rw (first, laid, append-assoc (pending m) (g .prints) (toCome (g .bad) n more))
 
   -- a turn takes what is still to be printed to what it writes, and what then is still to be printed
@@ -244,4 +237,4 @@ whole-output {guest-after} {host-after} q lo over w more none-behind =
     = omega (arith, q .runs .fits .room, totals-short (p .totals .passed) (p .totals .refused) (p .session .stopped), turns-length t, lo) in
     turns-keep t (record { order = omega arith; within = omega arith; room = omega arith }) lo more none-behind
     ∙ ap (λ (x : List ℕ). writtenBy t ++ (take (p .size) (q .buffer) ++ x)) (ends-total t refl over w more none-behind)
-    ∙ ap (λ (x : List ℕ). writtenBy t ++ x) (sym (ap (take (p .size + length total)) (q .output) ∙ stored-behind (q .buffer) total (p .size) room))
+    ∙ ap (λ (x : List ℕ). writtenBy t ++ x) (sym (ap (take (p .size + length total)) (q .output) ∙ take-sets (q .buffer) total (p .size) room))

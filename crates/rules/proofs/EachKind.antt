@@ -5,7 +5,7 @@ use native.Mathlib.Nat.{add-zero}
 use native.Mathlib.Numerals.{add-one}
 use native.Mathlib.Omega.{arith}
 use mathlib.Core.Path.{_≡_, refl, sym, ap, _∙_}
-use mathlib.Core.Bool.{Bool, true, false, cond, not, _&&_, _||_, false≢true}
+use mathlib.Core.Bool.{Bool, true, false, cond, not, _&&_, _||_, false≢true, or-false}
 use mathlib.Core.List.{List, [], _∷_}
 use mathlib.Core.Option.{Option, none, some}
 use lib.ListN.{length, drop}
@@ -215,10 +215,6 @@ filter from caps id part body =
       surplus = refl;
       bad = λ h. simp (place-else, place-last);
     }
-
-or-false : (b : Bool) → (b || false) ≡ b
-or-false true = refl
-or-false false = refl
 
 pub connect : (from : Side) (caps id speed class subclass protocol vendor product : ℕ) (version : Optional16) (body : List ℕ)
     → Shows from caps id (Connect speed class subclass protocol vendor product version) body (connectFacts id caps speed version)

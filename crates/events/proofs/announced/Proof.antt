@@ -1,12 +1,11 @@
 -- `events::announced` meets its contract: after i steps the first i rows are the table's and the others as at the start.
 -- Assumes nothing.
 use Prim.Native.Nat.{ℕ, _≤_, _<_, _-_}
-use mathlib.Core.Path.{_≡_, refl, ap, _∙_}
+use mathlib.Core.Path.{_≡_, ap, _∙_}
 use mathlib.Core.Bool.{Bool, false}
 use mathlib.Core.List.{List}
 use native.Mathlib.Omega.{arith}
 use borrow.Author.Needs.{needs}
-use lib.ListN.{length}
 use Rattle.scan.specs.Loop.{upTo, upto-none, upto-all}
 use Rattle.scan.specs.Laws.{upto-step}
 use Rattle.kinds.specs.Content.{Value, split}
@@ -16,6 +15,7 @@ use Rattle.rows.specs.Rows.{column, endpointRow}
 use Rattle.device.specs.declared.RowState.{RowState}
 use Rattle.device.specs.declared.Rows.{Rows}
 use Rattle.device.specs.Device.{closedRow, startRows}
+use Rattle.device.specs.Laws.{start-length}
 use Rattle.events.specs.Event.{announcedRow}
 use Rattle.events.proofs.announced.Statement.{statement}
 use Rattle.events.proofs.announced.Tie as tie
@@ -25,10 +25,6 @@ abbrev announces : List ℕ → Bool → Bool → ℕ → RowState → RowState
 announces rows packets streams =
     let vs : List Value = split (columnsOf packets streams) (layout 5) rows in
     announcedRow (column "type" (layout 5) vs) (column "interface" (layout 5) vs)
-
-start-long : length (startRows .rows) ≡ 32
-unfolding startRows
-start-long = refl
 
 abbrev Inv-loop : tie.InvT-loop
 Inv-loop body part packets streams out₀ i₀ out i = (i ≤ 32) × (out .rows ≡ upTo (announces (inPart part body) packets streams) 0 i (startRows .rows))
@@ -65,11 +61,11 @@ unfolding endpointRow
 loop-again c =
     let e = c .endpoint-row .ensures in
     let i : c .before .before .loop .i < 32 = search needs in
-    (search needs, upto-step _ _ (startRows .rows) _ (closedRow 0) _ (omega (arith, start-long)) (c .before .before .loop .inv .1) (λ j. record { kind = e j .kind; interface = e j .interface; streaming = false }))
+    (search needs, upto-step _ _ (startRows .rows) _ (closedRow 0) _ (omega (arith, start-length)) (c .before .before .loop .inv .1) (λ j. record { kind = e j .kind; interface = e j .interface; streaming = false }))
 
 returns : tie.Need-returns Inv-loop μ-loop
 returns c =
-    let e = c .before .loop .inv .1 ∙ upto-all _ 0 _ (startRows .rows) (omega (arith, start-long)) in
+    let e = c .before .loop .inv .1 ∙ upto-all _ 0 _ (startRows .rows) (omega (arith, start-length)) in
     λ j. record { rows = e j }
 
 pub announced-spec : {M : Type 1} → statement M
