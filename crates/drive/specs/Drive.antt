@@ -88,10 +88,6 @@ abbrev pub hostAfter : Side → List ℕ → List ℕ → List ℕ
 hostAfter Guest own host = host
 hostAfter Host own host = own
 
--- a call is made over the sender's own buffer, and the other buffer stays
-abbrev pub outcomeOf : Run → Side → List ℕ → Outcome
-outcomeOf r from piece = offerOf from (r .session) (ownOf from (r .guest) (r .host)) piece
-
 abbrev pub recorded : Run → Side → Outcome → Run
 recorded r from o =
     record {
@@ -102,8 +98,9 @@ recorded r from o =
       calls = suc (r .calls);
     }
 
+-- a call is made over the sender's own buffer, and the other buffer stays
 abbrev pub called : Run → Side → List ℕ → Run
-called r from piece = recorded r from (outcomeOf r from piece)
+called r from piece = recorded r from (offerOf from (r .session) (ownOf from (r .guest) (r .host)) piece)
 
 -- the items of a script, at most so many; it ends at one that is cut short
 unfoldable pub runOf : ℕ → Run → List ℕ → Run

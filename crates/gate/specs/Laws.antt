@@ -9,11 +9,12 @@ use native.Mathlib.Omega.{arith}
 use mathlib.Core.Path.{_≡_, refl, sym, ap, _∙_}
 use mathlib.Core.Bool.{Bool, true, false, cond, not, _&&_, _||_, true≢false}
 use mathlib.Core.List.{List, _++_}
-use lib.ListN.{length, take, drop, length-append}
-use lib.Seq.{sets, sets-eq, length-sets, take-at, take-append-add, length-take-le}
+use lib.ListN.{length, take, length-append}
+use lib.Seq.{sets, length-sets, take-append-add, length-take-le}
 use lib.Dec.{eqb, ltb}
 use borrow.Author.Tests.{eqb-true, ltb-false, lt-ltb, le-ltb, not-false}
 use Rattle.number.specs.Logic.{or-parts, or-none}
+use Rattle.number.specs.Laws.{take-sets}
 use Rattle.header.specs.declared.Side.{Side}
 use Rattle.header.specs.declared.Side.the-variants.{Guest, Host}
 use Rattle.header.specs.declared.Hello.{Hello}
@@ -37,15 +38,11 @@ front-is hold piece held n w =
     ap (λ (m : ℕ). take m (take held hold ++ piece)) e ∙ take-append-add (take held hold) piece (n - held)
 
 -- what is completed in the buffer stands at its front
-pub completed-front : (hold piece : List ℕ) (held n : ℕ) → Whole hold piece held n → take n (sets hold held (take (n - held) piece)) ≡ take held hold ++ take (n - held) piece
+completed-front : (hold piece : List ℕ) (held n : ℕ) → Whole hold piece held n → take n (sets hold held (take (n - held) piece)) ≡ take held hold ++ take (n - held) piece
 completed-front hold piece held n w =
-    let l : length (take held hold) ≡ held = length-take-le held hold (omega (arith, w .room, w .begun)) in
-    let m : length (take (n - held) piece) ≡ n - held = length-take-le (n - held) piece (omega (arith, w .there)) in
-    let q : sets hold held (take (n - held) piece) ≡ take held hold ++ take (n - held) piece ++ drop (held + length (take (n - held) piece)) hold =
-    sets-eq (take (n - held) piece) hold held (omega (arith, w .room, w .begun)) in
-    ap (take n) q
-    ∙ take-at (take held hold ++ take (n - held) piece) (drop (held + length (take (n - held) piece)) hold) n
-    (omega (arith, length-append (take held hold) (take (n - held) piece), w .begun))
+    let p : List ℕ = take (n - held) piece in
+    let m : held + length p ≡ n = omega (arith, length-take-le (n - held) piece (omega (arith, w .there)), w .begun) in
+    ap (λ (k : ℕ). take k (sets hold held p)) (sym m) ∙ take-sets hold p held (omega (arith, m, w .room))
 
 -- "a packet begun there .. is completed there and stays readable"; "A packet that lies whole in the piece isn't copied."
 pub lies : (hold piece : List ℕ) (held n : ℕ) → Whole hold piece held n → bytesAt (placeFor held) n piece (completed hold held piece n) ≡ take n (take held hold ++ piece)
