@@ -67,7 +67,7 @@ module _ (s : List ℕ) (i : ℕ) where
 
 -- ---- what digits spell
 
-pub spelt-short : (s : List ℕ) → length s < 2 → spelt s ≡ []
+spelt-short : (s : List ℕ) → length s < 2 → spelt s ≡ []
 unfolding spelt
 spelt-short [] h = refl
 spelt-short (a ∷ []) h = refl

@@ -88,7 +88,7 @@ module _ (line : List ℕ) {out after : List ℕ} {r : Line} (d : Decodes (lineO
 
 -- ---- the report's lines: at most 117 bytes, whatever their numbers
 
-pub length-digits : (k n : ℕ) → length (digits k n) ≤ k
+length-digits : (k n : ℕ) → length (digits k n) ≤ k
 unfolding digits
 length-digits zero n = omega arith
 length-digits (suc k) n = go (ltb n 10) (length-digits k (n / 10))

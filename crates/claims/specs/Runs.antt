@@ -86,7 +86,7 @@ absent-step s x n w h f =
     absent-kept s (eventOf (x .from) (x .packet)) n h (λ r k. f (sym (λ i. a i .request) ∙ r) k)
 
 -- an id under which no request waits stays so
-pub absent-run : (s : Session) (xs : List Sent) (n : ℕ) → AllOutOfWire s xs → NoLive (s .requests) n → NoneAsks n xs → NoLive (run s xs .requests) n
+absent-run : (s : Session) (xs : List Sent) (n : ℕ) → AllOutOfWire s xs → NoLive (s .requests) n → NoneAsks n xs → NoLive (run s xs .requests) n
 absent-run s [] n w h f = h
 absent-run s (x ∷ xs) n w h f = absent-run (nextBy s x) xs n (w .1) (absent-step s x n (w .0) h (f .0)) (f .1)
 

@@ -367,7 +367,7 @@ fresh-place : (j : ℕ) → placeAt freshRequests j .live ≡ false
 unfolding freshRequests
 fresh-place j = ap (λ (p : Place). p .live) (free-everywhere 96 j)
 
-pub place-after-any : (s : Session) (e : Event) (j : ℕ) → PlaceAfter s e j
+place-after-any : (s : Session) (e : Event) (j : ℕ) → PlaceAfter s e j
 place-after-any s e j = cases (eqb (judged s e .number) 0) (λ z. by-role (roleOf (e .class)) (does (e .class)) (eqb-true (judged s e .number) 0 z)) unchanged
   where
     t : Requests

@@ -244,7 +244,7 @@ reads-by {caps} {slot} {k} {body} {p} {q} law f e r =
     subst (λ (x : Packet). ReadsBody caps slot body x) (sym r) (subst (λ (n : ℕ). Fits caps n body → ReadsBody caps n body q) (sym e) law f)
 
 -- none of the numbers below n
-abbrev pub NoneBelow : ℕ → ℕ → Type 0
+abbrev NoneBelow : ℕ → ℕ → Type 0
 NoneBelow slot zero = Unit {0}
 NoneBelow slot (suc n) = NoneBelow slot n × (slot ≡ n → ⊥)
 

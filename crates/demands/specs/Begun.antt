@@ -342,7 +342,7 @@ left-kept x (c ∷ cs) h =
 abbrev pub begun : (Side → List ℕ) → Both
 begun hold = record { session = freshSession; hold = hold }
 
-pub begun-left : (hold : Side → List ℕ) → ((d : Side) → 32784 ≤ length (hold d)) → Left (begun hold)
+begun-left : (hold : Side → List ℕ) → ((d : Side) → 32784 ≤ length (hold d)) → Left (begun hold)
 unfolding freshSession
 begun-left hold room = record { room = room; fit = fit-is freshSession start-fit; sized = start-sized; unfinished = empty }
   where

@@ -109,7 +109,7 @@ pub record Bars (from : Side) (s : Session) (hold piece : List ℕ) (n : ℕ) : 
   pub packet : Goes from s hold → (m : ℕ) → cutAt (linkOf from s) (heldBytes from s hold ++ piece) ≡ whole m
       → n ≡ orNext (wireNumber (linkOf from s) (packetAt from s hold piece m)) (firstOf (checksBy s from (packetAt from s hold piece m)))
 
--- who may speak does not wait
+-- a direction whose hello was answered does not wait
 not-waiting : (from : Side) (s : Session) → (ownPassed from s ≡ true → otherPassed from s ≡ true) → isWaiting (linkOf from s) ≡ false
 not-waiting from s h = waiting-is from s ∙ go (ownPassed from s) refl (otherPassed from s) refl
   where

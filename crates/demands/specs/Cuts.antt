@@ -250,7 +250,7 @@ kept-ends-none x d piece h = record { ends-none = refl; same = bare-held d (held
     behind-held Host h Host = take-sets (x .hold Host) piece (x .session .held .host) h ∙ ap (λ (p : List ℕ). heldBy x Host ++ p) (sym (take-length piece))
 
 -- what the verdict leaves held
-pub verdict-held : (s : Session) (from : Side) (b : List ℕ) → verdictOf s from b .session .held ≡ s .held
+verdict-held : (s : Session) (from : Side) (b : List ℕ) → verdictOf s from b .session .held ≡ s .held
 unfolding verdictOf
 verdict-held s from b =
     cases (eqb (readNumber (linkOf from s) b) 0)

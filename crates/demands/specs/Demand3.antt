@@ -254,7 +254,7 @@ other-call from x piece h =
       ap (λ (n : ℕ). take n (x .hold)) e,
     )
 
-pub reader-laws : (from : Side) → ReaderLaws usbredir (reader from)
+reader-laws : (from : Side) → ReaderLaws usbredir (reader from)
 reader-laws from =
     record {
       stopped = stopped-call from;
@@ -317,7 +317,7 @@ module _ (from : Side) (x : State) (h : Starts from x) where
       none-zero (m ∷ ms) n a (inl e) z = a .0 (sym e ∙ z)
       none-zero (m ∷ ms) n a (inr o) z = none-zero ms n (a .1) o z
 
-  pub writer-laws : WriterLaws usbredir (linkOf from (x .session)) (writer from (x .session))
+  writer-laws : WriterLaws usbredir (linkOf from (x .session)) (writer from (x .session))
   writer-laws =
       record {
         checked = λ w e. w .fits e;

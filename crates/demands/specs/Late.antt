@@ -117,21 +117,21 @@ module _ (x : Both) (c : Call) where
       (λ t. subst P (sym (demand-1 .read (c .from) s (x .hold (c .from)) (c .piece) .refusal (eqb-false _ _ t) .requests)) same)
 
   -- an id under which no request waits stays so
-  pub absent-call : (n : ℕ) → NoLive (s .requests) n → NotAsked n (c .from) (contents (answerTo x c .handed)) → NoLive (next x c .session .requests) n
+  absent-call : (n : ℕ) → NoLive (s .requests) n → NotAsked n (c .from) (contents (answerTo x c .handed)) → NoLive (next x c .session .requests) n
   absent-call n a f =
       by-call (λ t. NoLive t n) a
       (λ h. absent-step (heldAs (c .from) 0 s) (record { from = c .from; packet = packetAt (c .from) s (x .hold (c .from)) (c .piece) (h .size) }) n (h .form) a
       (subst (NotAsked n (c .from)) (handed-in-gate (c .from) s (x .hold (c .from)) (c .piece) h) f .0))
 
   -- whatever ended the one request that waited under an id, none waits under it then
-  pub ended-call : (i : ℕ) → placeAt (s .requests) i .live ≡ true → placeAt (next x c .session .requests) i .live ≡ false
+  ended-call : (i : ℕ) → placeAt (s .requests) i .live ≡ true → placeAt (next x c .session .requests) i .live ≡ false
       → NoLive (next x c .session .requests) (placeAt (s .requests) i .request .id)
   ended-call i a =
       by-call (λ t. placeAt t i .live ≡ false → NoLive t (placeAt (s .requests) i .request .id))
       (λ b. absurd (true≢false (sym a ∙ b)))
       (λ h b. ended-absent (heldAs (c .from) 0 s) (eventOf (c .from) (packetAt (c .from) s (x .hold (c .from)) (c .piece) (h .size))) i (fit-is s (h .ready .fit) .ids) a b)
 
-pub absent-calls : (x : Both) (cs : List Call) (n : ℕ) → NoLive (x .session .requests) n → NoneAsks n x cs → NoLive (final x cs .session .requests) n
+absent-calls : (x : Both) (cs : List Call) (n : ℕ) → NoLive (x .session .requests) n → NoneAsks n x cs → NoLive (final x cs .session .requests) n
 unfolding final
 absent-calls x [] n a f = a
 absent-calls x (c ∷ cs) n a f = absent-calls (next x c) cs n (absent-call x c n a (f .0)) (f .1)

@@ -48,7 +48,7 @@ sent-is x (c ∷ cs) b q d =
     one Host n piece rest h e Host = own n piece rest (b Host) h e
 
 -- a run is what `play` makes of the bytes sent and of its order
-pub plays-sent : (x : Both) (cs : List Call) (b : Side → List ℕ) → Fits x → CutFrom x cs b
+plays-sent : (x : Both) (cs : List Call) (b : Side → List ℕ) → Fits x → CutFrom x cs b
     → play (sides (endings x cs)) (bare (x .session)) (λ d. heldBy x d ++ b d) ≡ behind (endings x cs) (leftBy (final x cs) (unread x cs b))
 plays-sent x cs b f q =
     (λ i. play (sides (endings x cs)) (bare (x .session)) (λ d. heldBy x d ++ sym (sent-is x cs b q d) i)) ∙ plays-on x cs (unread x cs b) f

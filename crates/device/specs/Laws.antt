@@ -46,7 +46,7 @@ pub closed-length : (d : Rows) (s : Scope) → length (closed d s .rows) ≡ len
 unfolding closed
 closed-length d s = each-length (closedBy s) (d .rows) 0
 
-pub closed-kind : (d : Rows) (s : Scope) (k : ℕ) → getD (closed d s .rows) k (closedRow 0) .kind ≡ getD (d .rows) k (closedRow 0) .kind
+closed-kind : (d : Rows) (s : Scope) (k : ℕ) → getD (closed d s .rows) k (closedRow 0) .kind ≡ getD (d .rows) k (closedRow 0) .kind
 unfolding closed
 closed-kind d s k = each-keeps (closedBy s) (λ (r : RowState). r .kind) (closed-by-kind s) (d .rows) 0 k (closedRow 0)
 
@@ -71,7 +71,7 @@ stream-keeps {X} g d e k b h = at (rowOf e)
 pub stream-length : (d : Rows) (e : Endpoint) (k : ℕ) (b : Bool) → length (streamTo d e k b .rows) ≡ length (d .rows)
 stream-length d e k b = stream-keeps (λ (a : Rows). length (a .rows)) d e k b (λ (i : ℕ). length-set (d .rows) i _)
 
-pub stream-kind : (d : Rows) (e : Endpoint) (k : ℕ) (b : Bool) (n : ℕ) → getD (streamTo d e k b .rows) n (closedRow 0) .kind ≡ getD (d .rows) n (closedRow 0) .kind
+stream-kind : (d : Rows) (e : Endpoint) (k : ℕ) (b : Bool) (n : ℕ) → getD (streamTo d e k b .rows) n (closedRow 0) .kind ≡ getD (d .rows) n (closedRow 0) .kind
 stream-kind d e k b n = stream-keeps (λ (a : Rows). getD (a .rows) n (closedRow 0) .kind) d e k b (λ (i : ℕ). set-keeps (λ (r : RowState). r .kind) (d .rows) i n (closedRow 0) _ refl)
 
 pub stream-control : (d : Rows) (e : Endpoint) (k : ℕ) (b : Bool) → controlRows (streamTo d e k b) ≡ controlRows d
@@ -83,7 +83,7 @@ pub replaced-length : (new d : Rows) → length (replaced new d .rows) ≡ lengt
 unfolding replaced
 replaced-length new d = each-length _ (d .rows) 0
 
-pub replaced-kind : (new d : Rows) (k : ℕ) → k < length (d .rows) → getD (replaced new d .rows) k (closedRow 0) .kind ≡ getD (new .rows) k (closedRow 0) .kind
+replaced-kind : (new d : Rows) (k : ℕ) → k < length (d .rows) → getD (replaced new d .rows) k (closedRow 0) .kind ≡ getD (new .rows) k (closedRow 0) .kind
 unfolding replaced
 replaced-kind new d k h = ap (λ (r : RowState). r .kind) (each-at _ (d .rows) 0 k (closedRow 0) h) ∙ ap (λ (i : ℕ). getD (new .rows) i (closedRow 0) .kind) (zero-add k)
 

@@ -27,7 +27,7 @@ use Rattle.events.specs.Build.{answering, plainEvent, interfaceEvent, en
 
 -- ---- the event that the code builds
 
-abbrev pub builds : Side → ℕ → Packet → List ℕ → Event
+abbrev builds : Side → ℕ → Packet → List ℕ → Event
 builds from id (Hello part) body = withWord (le 4 (inPart part body) 64) (plainEvent from 0 id classes.Hello)
 builds from id (Connect speed class subclass protocol vendor product version) body = plainEvent from 1 id classes.Connect
 builds from id Disconnect body = plainEvent from 2 id classes.Disconnect

@@ -49,7 +49,7 @@ pub cut-more : (l : Link) (b : List ℕ) → cutFor l b ≡ More → cutAt l b �
 unfolding cutFor
 cut-more l b e = found-more (headSize l b) (cutAt l b) e
 
-pub cut-bad : (l : Link) (b : List ℕ) (n size : ℕ) → cutFor l b ≡ Refused n size → (cutAt l b ≡ bad n) × (headSize l b ≡ size)
+cut-bad : (l : Link) (b : List ℕ) (n size : ℕ) → cutFor l b ≡ Refused n size → (cutAt l b ≡ bad n) × (headSize l b ≡ size)
 unfolding cutFor
 cut-bad l b n size e = found-bad (headSize l b) (cutAt l b) n size e
 
@@ -123,7 +123,7 @@ module _ (from : Side) (s : Session) (hold piece : List ℕ) where
       found-is : c ≡ cutFor (linkOf from s) (heldBytes from s hold ++ piece)
       found-is = rw (← el, ← eh) ec
 
-      pub goes-more : c ≡ More → cutAt (linkOf from s) (heldBytes from s hold ++ piece) ≡ more
+      goes-more : c ≡ More → cutAt (linkOf from s) (heldBytes from s hold ++ piece) ≡ more
       goes-more e = cut-more (linkOf from s) (heldBytes from s hold ++ piece) (sym found-is ∙ e)
 
       pub keep-fits : c ≡ More → heldOf from s + length piece ≤ 32783

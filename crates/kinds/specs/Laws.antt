@@ -96,7 +96,7 @@ numbers-back w (x ∷ xs) r h =
       numbers-back w xs r (h .1),
     )
 
-pub length-all : (w : ℕ) (xs : List ℕ) → length (bytesOfAll w xs) ≡ w * length xs
+length-all : (w : ℕ) (xs : List ℕ) → length (bytesOfAll w xs) ≡ w * length xs
 length-all w [] = sym (mul-zero w)
 length-all w (x ∷ xs) = rw (length-append, length-bytes w x, length-all w xs, mul-suc) (add-comm w (w * length xs))
 
@@ -195,7 +195,7 @@ complete-split has (f ∷ fs) s = go (has (f .there)) refl (complete-split has f
             rw t (sym (lt-leb (f .width * f .times + size has fs) (length s) (omega arith)))
 
 -- the fields that stand in s from a place on, each read where it stands
-abbrev pub valuesAt : (Bits → Bool) → List Field → List ℕ → ℕ → List Value
+abbrev valuesAt : (Bits → Bool) → List Field → List ℕ → ℕ → List Value
 valuesAt has [] s at = []
 valuesAt has (f ∷ fs) s at = cond (has (f .there)) (some (numbers (f .width) (f .times) s at)) none ∷ valuesAt has fs s (at + sizeOf has f)
 
@@ -262,7 +262,7 @@ wide-id false false id h = refl
 -- ---- a rule that no number of a field breaks
 
 -- where the search for a number that fails finds none, each of the n numbers keeps the rule
-pub each-good : (ok : ℕ → Bool) (w n i at : ℕ) → isNone (firstBad ok w n i at) ≡ true → (k : ℕ) → k < n → ok (i + k) ≡ true
+each-good : (ok : ℕ → Bool) (w n i at : ℕ) → isNone (firstBad ok w n i at) ≡ true → (k : ℕ) → k < n → ok (i + k) ≡ true
 each-good ok w zero i at e k h = absurd (omega arith)
 each-good ok w (suc n) i at e k h = go k h (good (ok i) e) (each-good ok w n (suc i) (at + w))
   where

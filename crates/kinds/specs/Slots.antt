@@ -65,7 +65,7 @@ few has slot h =
 
 -- ---- numbers: 0 to 27 at their own slot, 100 to 104 at 28 to 32
 
-abbrev pub numberColumn : ℕ → ℕ
+abbrev numberColumn : ℕ → ℕ
 numberColumn s = cond (leb s 27) s (s + 72)
 
 pub number-at : (slot : ℕ) → slot < 33 → kindAt slot .number ≡ numberColumn slot

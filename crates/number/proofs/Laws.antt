@@ -57,12 +57,12 @@ pub lay-none : (out s : List ℕ) (at i : ℕ) → min (length s) (length out - 
 lay-none out s at i h = cases (leb (length s) i) (λ e. rw (drop-of-length-le s (leb-true (length s) i e))) (λ e. let l : i < length s = leb-false (length s) i e in sets-out out (drop i s) (at + i) (omega arith))
 
 -- there is no more to take or to drop than there is
-pub take-min : (n : ℕ) (s : List ℕ) → take (min n (length s)) s ≡ take n s
+take-min : (n : ℕ) (s : List ℕ) → take (min n (length s)) s ≡ take n s
 take-min zero s = rw zero-min
 take-min (suc n) [] = rw min-zero
 take-min (suc n) (x ∷ s) = rw suc-min-suc (ap (λ (r : List ℕ). x ∷ r) (take-min n s))
 
-pub drop-min : (n : ℕ) (s : List ℕ) → drop (min n (length s)) s ≡ drop n s
+drop-min : (n : ℕ) (s : List ℕ) → drop (min n (length s)) s ≡ drop n s
 drop-min zero s = rw zero-min
 drop-min (suc n) [] = rw min-zero
 drop-min (suc n) (x ∷ s) = rw suc-min-suc (drop-min n s)

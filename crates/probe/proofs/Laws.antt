@@ -57,7 +57,7 @@ module _ (i : ℕ) where
   pub four-of : (a b c d : ℕ) → getD (a ∷ b ∷ c ∷ d ∷ 0 ∷ 0 ∷ 0 ∷ []) i 0 ≡ getD (a ∷ b ∷ c ∷ d ∷ []) i 0
   four-of a b c d = padded (a ∷ b ∷ c ∷ d ∷ []) 3 i
 
-  pub five-of : (a b c d e : ℕ) → getD (a ∷ b ∷ c ∷ d ∷ e ∷ 0 ∷ 0 ∷ []) i 0 ≡ getD (a ∷ b ∷ c ∷ d ∷ e ∷ []) i 0
+  five-of : (a b c d e : ℕ) → getD (a ∷ b ∷ c ∷ d ∷ e ∷ 0 ∷ 0 ∷ []) i 0 ≡ getD (a ∷ b ∷ c ∷ d ∷ e ∷ []) i 0
   five-of a b c d e = padded (a ∷ b ∷ c ∷ d ∷ e ∷ []) 2 i
 
 -- ---- the two packets with a field that may not be there

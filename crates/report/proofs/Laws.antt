@@ -62,7 +62,7 @@ none-came n got = go (eqb got 0) refl
     go false e = sym (ne-eqb (n + got) n (λ q. eqb-false got 0 e (omega arith)))
 
 -- a byte behind what is stored stays
-pub getD-sets-past : (xs l : List ℕ) (i j : ℕ) → i + length xs ≤ j → getD (sets l i xs) j 0 ≡ getD l j 0
+getD-sets-past : (xs l : List ℕ) (i j : ℕ) → i + length xs ≤ j → getD (sets l i xs) j 0 ≡ getD l j 0
 getD-sets-past [] l i j h = refl
 getD-sets-past (x ∷ xs) l i j h =
     getD-sets-past xs (set l i x) (suc i) j (omega arith) ∙ getD-set-other l i j x 0 (λ e. let z : j ≡ i = e in omega arith)

@@ -54,7 +54,7 @@ steps-fit (step-line e q i) f = q .fits
 steps-fit (step-end e l s g h i o) f = rw s (record { order = f .order; within = f .within; room = f .room })
 steps-fit (step-read e l q g h o) f = q .fits
 
-pub steps-length : {m n : Memory} → Steps m n → length (n .out) ≡ length (m .out)
+steps-length : {m n : Memory} → Steps m n → length (n .out) ≡ length (m .out)
 steps-length {m} (step-line {k} e q i) = ap length (q .output) ∙ length-sets (m .out) (m .state .size) (lineStep (m .state) k (m .guest) (m .host) (m .input) .prints)
 steps-length (step-end e l s g h i o) = ap length o
 steps-length (step-read e l q g h o) = ap length o
@@ -122,7 +122,7 @@ module _ {m n : Memory} (f : Fits (m .state)) (lo : length (m .out) ≡ 262144) 
       rw (first, laid, append-assoc (pending m) (g .prints) (toCome (g .bad) n more))
 
   -- a turn takes what is still to be printed to what it writes, and what then is still to be printed
-  pub step-keeps : (s : Steps m n)
+  step-keeps : (s : Steps m n)
       → pending m ++ outputFrom (progressOf m) (linesOf (unread (m .state) (m .input) ++ (readIn s ++ more))) ≡ writtenIn s ++ (pending n ++ toCome (badIn s) n more)
   step-keeps (step-line {k} e q i) = line-keeps e q i ∙ go (ltb 22528 z) (q .size)
     where
@@ -185,7 +185,7 @@ not-bad {n} (turn t w s) e = go (badIn s) (bad-over s)
 
 -- Whatever follows the bytes that were read, nothing where the input has ended: what all of the input gives is what the turns wrote, the
 -- output that is not written yet, and what is still to be printed.
-pub turns-keep : {m n : Memory} {k : ℕ} (t : Turns m n k) → Fits (m .state) → length (m .out) ≡ 262144 → (more : List ℕ) → (n .state .last ≡ true → more ≡ [])
+turns-keep : {m n : Memory} {k : ℕ} (t : Turns m n k) → Fits (m .state) → length (m .out) ≡ 262144 → (more : List ℕ) → (n .state .last ≡ true → more ≡ [])
     → pending m ++ outputFrom (progressOf m) (linesOf (unread (m .state) (m .input) ++ (readBy t ++ more))) ≡ writtenBy t ++ (pending n ++ toCome (badBy t) n more)
 turns-keep begin f lo more h = refl
 turns-keep {m} (turn {n} {o} t e s) f lo more h =

@@ -116,7 +116,7 @@ differ-when (p ∷ ps) d zero (suc j) h k e f q = absurd (clash p ps d e j (omeg
 differ-when (p ∷ ps) d (suc i) zero h k e f q = absurd (clash p ps d f i (omega arith) e q)
 differ-when (p ∷ ps) d (suc i) (suc j) h k e f q = ap suc (differ-when ps (later-apart p ps d) i j (omega arith) (omega arith) e f q)
 
-pub when-differ : (l : List Place) → Differ l → idsDiffer l ≡ true
+when-differ : (l : List Place) → Differ l → idsDiffer l ≡ true
 unfolding idsDiffer distinct liveIds
 when-differ [] d = refl
 when-differ (p ∷ ps) d = all-apart p ps (λ e. exists-not (hasId n) ps freePlace (other e)) (when-differ ps rest)

@@ -65,7 +65,7 @@ module _ (N : Wire) (k : N .K) (b : List ℕ) where
       (λ _ _ e. let z : _≡_ {A = ℕ} 0 1 = cc in absurd (omega arith))
       (λ _ _ e. let z : _≡_ {A = ℕ} 0 1 = cc in absurd (omega arith))
 
-  pub more-is : cut N k b ≡ more → IsMore N k b
+  more-is : cut N k b ≡ more → IsMore N k b
   more-is =
       by-tests (λ c. c ≡ more → IsMore N k b)
       (λ l e. inl l)

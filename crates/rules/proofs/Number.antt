@@ -29,7 +29,7 @@ use Rattle.rules.proofs.Place.{none-bad}
 use Rattle.rules.proofs.Words.{only-words}
 
 -- the number by the facts, the packet's part of the body and the id
-abbrev pub numberBy : Link → ℕ → Facts → List ℕ → ℕ
+abbrev numberBy : Link → ℕ → Facts → List ℕ → ℕ
 numberBy l id f rows =
     inOrder (not (sends (kindAt (f .slot) .sender) (l .sender)))
     (not (shared (sharedSet l) (kindAt (f .slot) .needs)) || f .surplus || (not (eqb (f .slot) 0) && not (hasBit (sharedSet l) 5) && leb 4294967296 id))

@@ -80,7 +80,7 @@ module _ {A : Type 0} (f : ℕ → A → A) where
   upto-all i (suc n) [] h = refl
   upto-all i (suc n) (x ∷ xs) h = ap (λ (t : List A). f i x ∷ t) (upto-all (suc i) n xs (omega arith))
 
-  pub upto-long : (i n : ℕ) (l : List A) → length (upTo f i n l) ≡ length l
+  upto-long : (i n : ℕ) (l : List A) → length (upTo f i n l) ≡ length l
   unfolding upTo
   upto-long i zero l = refl
   upto-long i (suc n) [] = refl

@@ -101,7 +101,7 @@ report-more n from r [] h = absurd (omega arith)
 report-more n from r (b ∷ rest) h = refl
 
 -- calls for which nothing is left change nothing
-pub more-calls : (n m : ℕ) (from : Side) (r : Report) (rest : List ℕ) → length rest ≤ n → length rest ≤ m → reportBy n from r rest ≡ reportBy m from r rest
+more-calls : (n m : ℕ) (from : Side) (r : Report) (rest : List ℕ) → length rest ≤ n → length rest ≤ m → reportBy n from r rest ≡ reportBy m from r rest
 unfolding reportBy
 more-calls zero m from r [] h k = sym (report-empty m from r)
 more-calls zero m from r (b ∷ rest) h k = absurd (omega arith)

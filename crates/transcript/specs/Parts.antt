@@ -35,7 +35,7 @@ prints-short p line = go (lineOf line) (line-short line)
 
 -- ---- where a line ends
 
-pub end-within : (l : List ℕ) → lineEnd l ≤ length l
+end-within : (l : List ℕ) → lineEnd l ≤ length l
 unfolding lineEnd
 end-within [] = omega arith
 end-within (b ∷ l) = go (eqb b 10) (end-within l)
@@ -53,7 +53,7 @@ module _ (bytes : List ℕ) (last : Bool) where
       go false e = n e
 
   -- a line that bytes begin with ends where their first newline stands, or with them
-  pub next-is : {k : ℕ} → nextOf bytes last ≡ Line k → (beginsLine bytes last ≡ true) × (k ≡ lineEnd bytes)
+  next-is : {k : ℕ} → nextOf bytes last ≡ Line k → (beginsLine bytes last ≡ true) × (k ≡ lineEnd bytes)
   next-is {k} =
       by-next (λ x. x ≡ Line k → (beginsLine bytes last ≡ true) × (k ≡ lineEnd bytes))
       (λ t e. let q : lineEnd bytes ≡ k = cc in (t, sym q))
@@ -74,7 +74,7 @@ module _ (bytes : List ℕ) (last : Bool) where
       let a = or-parts (ltb (lineEnd bytes) (length bytes) || ltb 4113 (length bytes)) (last && ltb 0 (length bytes)) (wait-is e) in
       ltb-false 4113 (length bytes) (or-parts (ltb (lineEnd bytes) (length bytes)) (ltb 4113 (length bytes)) (a .0) .1)
 
-  pub wait-none : last ≡ true → nextOf bytes last ≡ Wait → bytes ≡ []
+  wait-none : last ≡ true → nextOf bytes last ≡ Wait → bytes ≡ []
   wait-none t e =
       let a = or-parts (ltb (lineEnd bytes) (length bytes) || ltb 4113 (length bytes)) (last && ltb 0 (length bytes)) (wait-is e) in
       let z : ltb 0 (length bytes) ≡ false = rw t at (a .1) in
@@ -150,7 +150,7 @@ last-line b (c ∷ l) h = go (eqb b 10) (last-line c l) h
 no-spelling : (s : List ℕ) → 4096 < length s → isSpelling s ≡ false
 no-spelling s h = rw (lt-leb (length s) 4096 h) (and-false (allHex s && eqb (length s % 2) 0))
 
-pub long-bad : (line : List ℕ) → 4113 < length line → lineOf line ≡ none
+long-bad : (line : List ℕ) → 4113 < length line → lineOf line ≡ none
 unfolding lineOf
 long-bad line h =
     rw (no-spelling (drop 17 line) (omega (arith, length-drop 17 line)), no-spelling (drop 16 line) (omega (arith, length-drop 16 line)))
