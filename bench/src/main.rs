@@ -108,7 +108,9 @@ fn measure(traffic: &Traffic) -> Result<(), String> {
             best = best.min(start.elapsed());
         }
         line("libusbredirparser", best);
-        println!("  libusbredirparser hands out {handed} packets");
+        ensure(handed == packets, || {
+            format!("libusbredirparser hands out {handed} packets, and not {packets}")
+        })?;
     }
     ensure(told[0] == told[1], || "the two gates differ".to_string())
 }
