@@ -109,8 +109,8 @@ outOfOrder d StreamData = false
 
 abbrev pub mistypedBy : Rows → Typed → Bool
 mistypedBy rows Untyped = false
-mistypedBy rows (OfEndpoint e k) = not (eqb (stateAt rows e .kind) k)
-mistypedBy rows (OfMask m k) = maskMistyped rows m k
+mistypedBy rows (OfEndpoint e ty) = not (eqb (stateAt rows e .«endpoint_type») ty)
+mistypedBy rows (OfMask m ty) = maskMistyped rows m ty
 
 abbrev pub wrongType : Rows → Event → Bool
 wrongType rows e = traitsOf (e .class) .typed && mistypedBy rows (e .typed)
@@ -127,8 +127,8 @@ settling t e = isTransfer e && isSome (lowest t Settling)
 
 abbrev pub isOpen : Rows → Typed → Bool
 isOpen rows Untyped = false
-isOpen rows (OfEndpoint e k) = stateAt rows e .streaming
-isOpen rows (OfMask m k) = false
+isOpen rows (OfEndpoint e ty) = stateAt rows e .streaming
+isOpen rows (OfMask m ty) = false
 
 abbrev pub streamClosed : Rows → Event → Bool
 streamClosed rows e = traitsOf (e .class) .streamed && not (isOpen rows (e .typed))

@@ -151,11 +151,11 @@ fn mistyped_by(rows: Rows, typed: Typed) -> bool
 {
     match typed {
         Typed::Untyped => false,
-        Typed::OfEndpoint(endpoint, kind) => {
+        Typed::OfEndpoint(endpoint, ty) => {
             let r = state_at(rows, endpoint);
-            r.kind != kind
+            r.endpoint_type != ty
         }
-        Typed::OfMask(mask, kind) => mask_mistyped(rows, mask, kind),
+        Typed::OfMask(mask, ty) => mask_mistyped(rows, mask, ty),
     }
 }
 

@@ -39,7 +39,7 @@ invalid = 255
 
 -- a row of a type, of interface 0, with its stream closed
 abbrev pub closedRow : ℕ → RowState
-closedRow k = record { kind = k; interface = 0; streaming = false }
+closedRow ty = record { «endpoint_type» = ty; interface = 0; streaming = false }
 
 -- "Start: .. all rows invalid but 0 and 16 (control), interfaces 0, streams closed"
 unfoldable pub startRows : Rows
@@ -58,16 +58,16 @@ stateAt d e = rowIn (d .rows) (rowOf e)
 
 -- a row of the mask has another type
 abbrev pub mistyped : ℕ → ℕ → ℕ → RowState → Bool
-mistyped mask k i r = hasBit mask i && not (eqb (r .kind) k)
+mistyped mask ty i r = hasBit mask i && not (eqb (r .«endpoint_type») ty)
 
 abbrev pub maskMistyped : Rows → ℕ → ℕ → Bool
-maskMistyped d mask k = anyAt (mistyped mask k) 0 (d .rows)
+maskMistyped d mask ty = anyAt (mistyped mask ty) 0 (d .rows)
 
 -- ---- "5 replaces the rows and closes streams whose row changes type."
 
 -- a row and the one that takes its place
 abbrev pub replacedBy : RowState → RowState → RowState
-replacedBy new old = record { kind = new .kind; interface = new .interface; streaming = old .streaming && eqb (old .kind) (new .kind) }
+replacedBy new old = record { «endpoint_type» = new .«endpoint_type»; interface = new .interface; streaming = old .streaming && eqb (old .«endpoint_type») (new .«endpoint_type») }
 
 unfoldable pub replaced : Rows → Rows → Rows
 replaced new d = record { rows = eachAt (λ (i : ℕ) (r : RowState). replacedBy (getD (new .rows) i (closedRow 0)) r) 0 (d .rows) }
@@ -75,18 +75,18 @@ replaced new d = record { rows = eachAt (λ (i : ℕ) (r : RowState). replacedBy
 -- ---- streams
 
 abbrev pub withStream : Bool → RowState → RowState
-withStream b r = record { kind = r .kind; interface = r .interface; streaming = b }
+withStream b r = record { «endpoint_type» = r .«endpoint_type»; interface = r .interface; streaming = b }
 
 -- the stream of a row opened or closed, "only where the row's type is that kind's"
 abbrev pub streamIn : Rows → RowOf → ℕ → Bool → Rows
-streamIn d (At r) k b =
-    cond (eqb (getD (d .rows) (r .0) (closedRow 0) .kind) k)
+streamIn d (At r) ty b =
+    cond (eqb (getD (d .rows) (r .0) (closedRow 0) .«endpoint_type») ty)
     (record { rows = set (d .rows) (r .0) (withStream b (getD (d .rows) (r .0) (closedRow 0))) })
     d
-streamIn d Malformed k b = d
+streamIn d Malformed ty b = d
 
 unfoldable pub streamTo : Rows → Endpoint → ℕ → Bool → Rows
-streamTo d e k b = streamIn d (rowOf e) k b
+streamTo d e ty b = streamIn d (rowOf e) ty b
 
 -- ---- the rows whose requests and streams a passed packet ends
 
@@ -115,7 +115,7 @@ touched d s e = touchedIn d s (rowOf e)
 -- ---- 43: "row 0 or 16 not control"
 
 abbrev pub controlRows : Rows → Bool
-controlRows d = eqb (getD (d .rows) 0 (closedRow 0) .kind) control && eqb (getD (d .rows) 16 (closedRow 0) .kind) control
+controlRows d = eqb (getD (d .rows) 0 (closedRow 0) .«endpoint_type») control && eqb (getD (d .rows) 16 (closedRow 0) .«endpoint_type») control
 
 -- ---- the device
 

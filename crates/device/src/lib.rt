@@ -13,7 +13,7 @@ use endpoint::row_of;
 
 // A row: the type and the interface of its endpoint as the endpoint table gave them, and whether its stream is open.
 pub struct RowState {
-    pub kind: u8,
+    pub endpoint_type: u8,
     pub interface: u8,
     pub streaming: bool,
 }
@@ -44,11 +44,11 @@ pub enum Scope {
     OfInterface(u8),
 }
 
-fn closed_row(kind: u8) -> RowState
-    ensures { λ r. ⌜ r ≡ closedRow kind ⌝ }
+fn closed_row(ty: u8) -> RowState
+    ensures { λ r. ⌜ r ≡ closedRow ty ⌝ }
 {
     RowState {
-        kind,
+        endpoint_type: ty,
         interface: 0,
         streaming: false,
     }
@@ -92,21 +92,21 @@ pub fn state_at(rows: Rows, e: Endpoint) -> RowState
     }
 }
 
-fn is_mistyped(mask: u32, kind: u8, row: Row, r: RowState) -> bool
-    ensures { λ b. ⌜ b ≡ mistyped mask kind (row .0) r ⌝ }
+fn is_mistyped(mask: u32, ty: u8, row: Row, r: RowState) -> bool
+    ensures { λ b. ⌜ b ≡ mistyped mask ty (row .0) r ⌝ }
 {
-    in_mask(mask, row) & (r.kind != kind)
+    in_mask(mask, row) & (r.endpoint_type != ty)
 }
 
 // A row of the mask has another type than this.
-pub fn mask_mistyped(rows: Rows, mask: u32, kind: u8) -> bool
-    ensures { λ r. ⌜ r ≡ maskMistyped rows mask kind ⌝ }
+pub fn mask_mistyped(rows: Rows, mask: u32, ty: u8) -> bool
+    ensures { λ r. ⌜ r ≡ maskMistyped rows mask ty ⌝ }
 {
     let mut i: usize = 0;
     while i < 32 {
         let r = rows.rows[i];
         let number = i as u8;
-        if is_mistyped(mask, kind, Row(number), r) {
+        if is_mistyped(mask, ty, Row(number), r) {
             return true;
         }
         i += 1;
@@ -118,9 +118,9 @@ fn replaced_by(new: RowState, old: RowState) -> RowState
     ensures { λ r. ⌜ r ≡ replacedBy new old ⌝ }
 {
     RowState {
-        kind: new.kind,
+        endpoint_type: new.endpoint_type,
         interface: new.interface,
-        streaming: old.streaming & (old.kind == new.kind),
+        streaming: old.streaming & (old.endpoint_type == new.endpoint_type),
     }
 }
 
@@ -143,15 +143,15 @@ fn with_stream(r: RowState, streaming: bool) -> RowState
     ensures { λ s. ⌜ s ≡ withStream streaming r ⌝ }
 {
     RowState {
-        kind: r.kind,
+        endpoint_type: r.endpoint_type,
         interface: r.interface,
         streaming,
     }
 }
 
 // Opens or closes the stream of an endpoint's row, where the row has this type.
-pub fn set_stream(rows: Rows, e: Endpoint, kind: u8, streaming: bool) -> Rows
-    ensures { λ r. ⌜ r ≡ streamTo rows e kind streaming ⌝ }
+pub fn set_stream(rows: Rows, e: Endpoint, ty: u8, streaming: bool) -> Rows
+    ensures { λ r. ⌜ r ≡ streamTo rows e ty streaming ⌝ }
 {
     let mut out = rows;
     let found = row_of(e);
@@ -159,7 +159,7 @@ pub fn set_stream(rows: Rows, e: Endpoint, kind: u8, streaming: bool) -> Rows
         RowOf::At(r) => {
             let i = r.0 as usize;
             let old = out.rows[i];
-            if old.kind == kind {
+            if old.endpoint_type == ty {
                 out.rows[i] = with_stream(old, streaming);
             }
             out
@@ -228,5 +228,5 @@ pub fn has_control_rows(rows: Rows) -> bool
 {
     let out = rows.rows[0];
     let inward = rows.rows[16];
-    (out.kind == 0) & (inward.kind == 0)
+    (out.endpoint_type == 0) & (inward.endpoint_type == 0)
 }

@@ -35,18 +35,18 @@ interfaceEvent from kind id i = built from PlainRequest (requestWith kind id i 0
 
 -- a request or stream data on an endpoint of a type
 abbrev pub endpointEvent : Side → ℕ → ℕ → Class → Endpoint → ℕ → ℕ → ℕ → Event
-endpointEvent from kind id c e k n st = built from c (requestWith kind id (e .0) n) (answering 0 0 true) (OfEndpoint e k) st
+endpointEvent from kind id c e ty n st = built from c (requestWith kind id (e .0) n) (answering 0 0 true) (OfEndpoint e ty) st
 
 -- a request about a mask of rows of a type
 abbrev pub maskEvent : Side → ℕ → ℕ → ℕ → ℕ → Event
-maskEvent from kind id m k = built from PlainRequest (requestWith kind id 0 0) (answering 0 0 false) (OfMask m k) 0
+maskEvent from kind id m ty = built from PlainRequest (requestWith kind id 0 0) (answering 0 0 false) (OfMask m ty) 0
 
 abbrev pub replyEvent : Side → ℕ → ℕ → ℕ → ℕ → ℕ → Answers → Event
 replyEvent from kind id t n st a = built from PlainReply (requestWith kind id t n) a Untyped st
 
 -- a status of a stream of a type
 abbrev pub statusEvent : Side → ℕ → ℕ → Endpoint → ℕ → ℕ → ℕ → ℕ → Event
-statusEvent from kind id e k st m n = built from StreamStatus (requestWith kind id (e .0) 0) (answering m n true) (OfEndpoint e k) st
+statusEvent from kind id e ty st m n = built from StreamStatus (requestWith kind id (e .0) 0) (answering m n true) (OfEndpoint e ty) st
 
 abbrev pub withWord : ℕ → Event → Event
 withWord w e = record { sender = e .sender; class = e .class; request = e .request; answers = e .answers; typed = e .typed; status = e .status; word = w; rows = e .rows }
@@ -56,8 +56,8 @@ withRows d e = record { sender = e .sender; class = e .class; request = e .reque
 
 -- control, bulk and interrupt data: a request of the guest's, or the host's reply
 abbrev pub transferEvent : Side → ℕ → ℕ → Endpoint → ℕ → ℕ → ℕ → Event
-transferEvent from kind id e k n st =
-    cond (isGuest from) (endpointEvent from kind id PlainRequest e k n st) (replyEvent from kind id (e .0) n st (answering kind kind true))
+transferEvent from kind id e ty n st =
+    cond (isGuest from) (endpointEvent from kind id PlainRequest e ty n st) (replyEvent from kind id (e .0) n st (answering kind kind true))
 
 abbrev pub interruptEvent : Side → ℕ → Endpoint → ℕ → ℕ → Event
 interruptEvent from id e n st = cond (not (isGuest from) && isIn e) (endpointEvent from 103 id StreamData e interrupt n st) (transferEvent from 103 id e interrupt n st)

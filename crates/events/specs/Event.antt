@@ -51,10 +51,10 @@ isTargeted mask = false
 -- the rows whose type is wanted, and the type
 abbrev pub typedOf : Option ℕ → About → Content → Typed
 typedOf none a p = Untyped
-typedOf (some k) nothing p = Untyped
-typedOf (some k) endpoint p = OfEndpoint (record { 0 = field "endpoint" p }) k
-typedOf (some k) interface p = Untyped
-typedOf (some k) mask p = OfMask (field "mask" p) k
+typedOf (some ty) nothing p = Untyped
+typedOf (some ty) endpoint p = OfEndpoint (record { 0 = field "endpoint" p }) ty
+typedOf (some ty) interface p = Untyped
+typedOf (some ty) mask p = OfMask (field "mask" p) ty
 
 -- the first capability word of a hello; one without words offers nothing
 abbrev pub wordOf : Content → ℕ
@@ -62,7 +62,7 @@ wordOf p = cond (eqb (p .kind) 0) (le 4 (p .rest) 0) 0
 
 -- the rows that an endpoint table announces: type and interface of each
 abbrev pub announcedRow : List ℕ → List ℕ → ℕ → RowState → RowState
-announcedRow types interfaces i r = record { kind = getD types i 0; interface = getD interfaces i 0; streaming = false }
+announcedRow types interfaces i r = record { «endpoint_type» = getD types i 0; interface = getD interfaces i 0; streaming = false }
 
 abbrev pub announcedIn : List Field → List Value → Rows
 announcedIn fs vs = record { rows = eachAt (announcedRow (column "type" fs vs) (column "interface" fs vs)) 0 (startRows .rows) }

@@ -243,7 +243,7 @@ fn announced(body: &[u8], part: Part, packets: bool, streams: bool) -> Rows
     while i < 32 {
         let r = endpoint_row(body, part, packets, streams, Row(i as u8));
         out.rows[i] = RowState {
-            kind: r.kind,
+            endpoint_type: r.endpoint_type,
             interface: r.interface,
             streaming: false,
         };

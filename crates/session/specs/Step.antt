@@ -75,8 +75,8 @@ acknowledged d = record { present = d .present; introduction = d .introduction; 
 -- a stream opened or closed: "only where the row's type is that kind's"
 abbrev pub streamBy : Rows → Typed → Bool → Rows
 streamBy rows Untyped b = rows
-streamBy rows (OfEndpoint e k) b = streamTo rows e k b
-streamBy rows (OfMask m k) b = rows
+streamBy rows (OfEndpoint e ty) b = streamTo rows e ty b
+streamBy rows (OfMask m ty) b = rows
 
 -- "a status opens if it answers a start with 0 and otherwise closes"
 abbrev pub opens : Event → Match → Bool

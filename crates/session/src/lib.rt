@@ -205,7 +205,7 @@ fn stream_by(rows: Rows, typed: Typed, streaming: bool) -> Rows
 {
     match typed {
         Typed::Untyped => rows,
-        Typed::OfEndpoint(endpoint, kind) => set_stream(rows, endpoint, kind, streaming),
+        Typed::OfEndpoint(endpoint, ty) => set_stream(rows, endpoint, ty, streaming),
         Typed::OfMask(_, _) => rows,
     }
 }

@@ -12,10 +12,10 @@ use Rattle.device.proofs.mask_mistyped.Statement.{statement}
 use Rattle.device.proofs.mask_mistyped.Tie as tie
 
 abbrev Inv-loop : tie.InvT-loop
-Inv-loop mask kind rows i₀ i = (i ≤ 32) × (anyAt (mistyped mask kind) 0 (rows .rows) ≡ anyAt (mistyped mask kind) i (drop i (rows .rows)))
+Inv-loop mask ty rows i₀ i = (i ≤ 32) × (anyAt (mistyped mask ty) 0 (rows .rows) ≡ anyAt (mistyped mask ty) i (drop i (rows .rows)))
 
 abbrev μ-loop : tie.MeasureT-loop
-μ-loop mask kind rows i₀ i = 32 - i
+μ-loop mask ty rows i₀ i = 32 - i
 
 loop-holds : tie.Need-loop-holds Inv-loop μ-loop
 loop-holds c = search needs
