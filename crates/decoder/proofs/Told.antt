@@ -26,23 +26,23 @@ use Rattle.packet.specs.declared.Packet.{Packet}
 use Rattle.packet.specs.Packet.{shownOf, contentOf}
 use Rattle.decoder.specs.declared.Reading.{Reading}
 use Rattle.decoder.specs.declared.Reading.the-variants.{Refused, Passed}
-use Rattle.decoder.specs.Reading.{Handed, Told, told, partAt, kindOr, readOf}
+use Rattle.decoder.specs.Reading.{PacketTold, Told, told, partAt, kindOr, readOf}
 use Rattle.decoder.specs.Body.{ReadsBody, ReadsKind, toldBody, readBodyOf}
 use Rattle.kinds.specs.Slots.{found}
 
-abbrev telling : ℕ → Option Handed → Told
+abbrev telling : ℕ → Option PacketTold → Told
 telling n o = record { number = n; handed = o }
 
 -- a number w, with something handed on where it is 0
-abbrev numbered : ℕ → Handed → Told
+abbrev numbered : ℕ → PacketTold → Told
 numbered w x = telling w (cond (eqb w 0) (some x) none)
 
-not-handed : (n w : ℕ) (x : Handed) → n ≡ w → (n ≡ 0 → ⊥) → telling n none ≡ numbered w x
+not-handed : (n w : ℕ) (x : PacketTold) → n ≡ w → (n ≡ 0 → ⊥) → telling n none ≡ numbered w x
 not-handed n w x e z =
     let f : eqb w 0 ≡ false = ne-eqb w 0 (λ y. z (e ∙ y)) in
     λ i. telling (e i) (cond (sym f i) (some x) none)
 
-is-handed : (w : ℕ) (x y : Handed) → w ≡ 0 → x ≡ y → telling 0 (some x) ≡ numbered w y
+is-handed : (w : ℕ) (x y : PacketTold) → w ≡ 0 → x ≡ y → telling 0 (some x) ≡ numbered w y
 is-handed w x y e p =
     let t : eqb w 0 ≡ true = eq-eqb w 0 e in
     λ i. telling (sym e i) (cond (sym t i) (some (p i)) none)
@@ -73,8 +73,8 @@ module _ (l : Link) (h : Header) {slot : ℕ} {body : List ℕ} {p : Packet} {n 
 -- ---- the bytes of one packet
 
 -- what is handed on has the header that was to be handed on
-same-header : (b : Bool) (x y : Handed) → some x ≡ cond b (some y) none → x .header ≡ y .header
-same-header true x y e = let f : x ≡ y = cc in ap (λ (z : Handed). z .header) f
+same-header : (b : Bool) (x y : PacketTold) → some x ≡ cond b (some y) none → x .header ≡ y .header
+same-header true x y e = let f : x ≡ y = cc in ap (λ (z : PacketTold). z .header) f
 same-header false x y e = let z : _≡_ {A = ℕ} 0 1 = cc in absurd (omega arith)
 
 -- a reading of a body tells the same of the bytes that the body ends

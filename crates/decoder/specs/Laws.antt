@@ -16,7 +16,7 @@ use Rattle.packet.specs.declared.Packet.{Packet}
 use Rattle.packet.specs.Packet.{shownOf, contentOf}
 use Rattle.decoder.specs.declared.Reading.{Reading}
 use Rattle.decoder.specs.declared.Reading.the-variants.{Refused, Passed}
-use Rattle.decoder.specs.Reading.{Handed, Told, told, partOf, readOf}
+use Rattle.decoder.specs.Reading.{PacketTold, Told, told, partOf, readOf}
 
 pub record Refusing (l : Link) (bytes : List ℕ) (n : ℕ) : Type 0 where
   pub number : n ≡ readNumber l bytes
@@ -27,13 +27,13 @@ pub record Passing (l : Link) (bytes : List ℕ) (h : Header) (p : Packet) : Typ
   pub content : contentOf (sharedSet l) (h .id) p (drop (h .size) bytes) ≡ decode l bytes
   pub part : shownOf (sharedSet l) p .part ≡ partOf l bytes
 
-handed-none : (t : Bool) (b : Handed) → none ≡ cond t (some b) none → t ≡ false
+handed-none : (t : Bool) (b : PacketTold) → none ≡ cond t (some b) none → t ≡ false
 handed-none true b e =
     let z : _≡_ {A = ℕ} 0 1 = cc in
     absurd (omega arith)
 handed-none false b e = refl
 
-same : {a b : Handed} → _≡_ {A = Option Handed} (some a) (some b) → a ≡ b
+same : {a b : PacketTold} → _≡_ {A = Option PacketTold} (some a) (some b) → a ≡ b
 same e = cc
 
 module _ {l : Link} {bytes : List ℕ} {r : Reading} (t : told l bytes r ≡ readOf l bytes) where
@@ -49,4 +49,4 @@ module _ {l : Link} {bytes : List ℕ} {r : Reading} (t : told l bytes r ≡ rea
       let s = rw e at t in
       let z : readNumber l bytes ≡ 0 = sym (ap (λ (x : Told). x .number) s) in
       let g = same (rw z at (ap (λ (x : Told). x .handed) s)) in
-      record { number = z; content = ap (λ (x : Handed). x .content) g; part = ap (λ (x : Handed). x .part) g }
+      record { number = z; content = ap (λ (x : PacketTold). x .content) g; part = ap (λ (x : PacketTold). x .part) g }

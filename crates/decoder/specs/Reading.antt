@@ -20,14 +20,14 @@ use Rattle.decoder.specs.declared.Reading.{Reading}
 use Rattle.decoder.specs.declared.Reading.the-variants.{Refused, Passed}
 
 -- a packet that passed
-pub record Handed : Type 0 where
+pub record PacketTold : Type 0 where
   pub header : Header
   pub content : Content
   pub part : Part
 
 pub record Told : Type 0 where
   pub number : ℕ
-  pub handed : Option Handed
+  pub handed : Option PacketTold
 
 -- a packet's body stands behind its header
 abbrev pub told : Link → List ℕ → Reading → Told

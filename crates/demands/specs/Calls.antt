@@ -26,7 +26,7 @@ use Rattle.kinds.specs.Table.{kinds, kindAt}
 use Rattle.kinds.specs.Content.{Content, find}
 use Rattle.kinds.specs.Number.{surplus, wideId, sizeOk, bad as bad-place, isNone, streamsAlone, inOrder, kindNumber, byKind, wireNumber}
 use Rattle.kinds.specs.Codec.{contentAt, decode, encode, orNext, readNumber, bodyLength, packetNumber, writeNumber}
-use Rattle.decoder.specs.Reading.{Handed}
+use Rattle.decoder.specs.Reading.{PacketTold}
 use Rattle.events.specs.Event.{eventOf}
 use Rattle.session.specs.declared.Session.{Session}
 use Rattle.session.specs.Session.{linkOf, unfit}
@@ -253,7 +253,7 @@ completed-rest hold piece held n w = go (eqb held 0)
 -- a packet, or a header that is refused, of so many bytes
 module _ (from : Side) (s : Session) (hold piece : List ℕ) (size : ℕ) (w : Whole hold piece (heldOf from s) size) where
   -- the number ends a packet, so that what is said of 1, 2, 3, 41 and 43 asks nothing; the bytes are those of `lies` and `completed-rest`
-  ended : (t : Session) (n : ℕ) (h : Option Handed) → ends n ≡ true
+  ended : (t : Session) (n : ℕ) (h : Option PacketTold) → ends n ≡ true
       → (ofHeader n ≡ true → size ≡ headSize (linkOf from s) (heldBytes from s hold ++ piece))
       → (ofHeader n ≡ false → size ≡ headSize (linkOf from s) (heldBytes from s hold ++ piece) + lengthOf (heldBytes from s hold ++ piece))
       → Leaves from s hold piece (record { session = t; number = n; taken = size - heldOf from s; place = placeFor (heldOf from s); size = size; handed = h; hold = completed hold (heldOf from s) piece size })

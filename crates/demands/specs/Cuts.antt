@@ -20,7 +20,7 @@ use Rattle.header.specs.declared.Side.the-variants.{Guest, Host}
 use Rattle.header.specs.declared.Link.{Link}
 use Rattle.header.specs.Header.{kindOf, lengthOf}
 use Rattle.kinds.specs.Codec.{decode, readNumber}
-use Rattle.decoder.specs.Reading.{Handed, readOf}
+use Rattle.decoder.specs.Reading.{PacketTold, readOf}
 use Rattle.events.specs.declared.Event.{Event}
 use Rattle.events.specs.Event.{eventOf}
 use Rattle.checks.specs.Checks.{matchOf, numberFor}
@@ -35,7 +35,7 @@ use Rattle.roundtrip.specs.Cut.{Cut, more, bad, whole, cutOf}
 use Rattle.roundtrip.specs.Told.{IsWhole, whole-is, IsBad, bad-is}
 use Rattle.wire.specs.Wire.{usbredir}
 use Rattle.frame.specs.Frame.{headSize, headNumber, cutAt, completed}
-use Rattle.verdict.specs.Verdict.{Told, stoppedNow, refusedAs, verdictOf}
+use Rattle.verdict.specs.Verdict.{VerdictTold, stoppedNow, refusedAs, verdictOf}
 use Rattle.gate.specs.Offer.{heldOf, heldAs, heldBytes, barred, Outcome, unmoved, kept, headerRefused, packetTaken, byCut, offerOf, Whole}
 use Rattle.gate.specs.Laws.{front-is, more-few, whole-here, header-here, Ready, ready}
 use Rattle.demands.specs.Numbers.{header-numbers, barred-numbers}
@@ -77,9 +77,9 @@ ends n = not (among (1 ∷ 2 ∷ 3 ∷ 41 ∷ 43 ∷ []) n)
 pub record Ended : Type 0 where
   pub from : Side
   pub number : ℕ
-  pub handed : Option Handed
+  pub handed : Option PacketTold
 
-abbrev pub endedBy : Side → ℕ → Option Handed → List Ended
+abbrev pub endedBy : Side → ℕ → Option PacketTold → List Ended
 endedBy d n h = cond (ends n) (record { from = d; number = n; handed = h } ∷ []) []
 
 -- the answers of a run that end a packet, in order
@@ -164,7 +164,7 @@ verdict-bare : (s : Session) (from : Side) (b : List ℕ)
     → verdictOf (bare s) from b ≡ record { session = bare (verdictOf s from b .session); number = verdictOf s from b .number; handed = verdictOf s from b .handed }
 verdict-bare s from b =
     verdict-as Guest 0 (heldAs Host 0 s) from b
-    ∙ ap (λ (t : Told). record { session = heldAs Guest 0 (t .session); number = t .number; handed = t .handed }) (verdict-as Host 0 s from b)
+    ∙ ap (λ (t : VerdictTold). record { session = heldAs Guest 0 (t .session); number = t .number; handed = t .handed }) (verdict-as Host 0 s from b)
 
 -- ---- bytes behind a packet change nothing
 
@@ -304,7 +304,7 @@ module _ (x : Both) (d : Side) (piece : List ℕ) (n : ℕ) where
       let f : t ≡ heldBy x d ++ take (n - heldOf d s) piece = front-is (x .hold d) piece (heldOf d s) n w in
       let i : IsWhole usbredir l all n = whole-is usbredir l all n e in
       let c : length t ≡ n = length-take-le n all (i .there) in
-      let v : Told = verdictOf (heldAs d 0 s) d t in
+      let v : VerdictTold = verdictOf (heldAs d 0 s) d t in
       let q : verdictOf (bare s) d t ≡ record { session = bare (v .session); number = v .number; handed = v .handed } =
       ap (λ (u : Session). verdictOf u d t) (sym (bare-held d 0 s)) ∙ verdict-bare (heldAs d 0 s) d t in
       record {

@@ -29,7 +29,7 @@ use Rattle.packet.specs.declared.Packet.{Packet}
 use Rattle.packet.specs.declared.Packet.the-variants.{Hello, InterfaceTable, EndpointTable, Filter, Control, Bulk, Iso, Interrupt, BufferedBulk}
 use Rattle.packet.specs.Packet.{shownOf, said, contentOf, optional16Of}
 use Rattle.rows.specs.Rows.{element, interfaceRow, endpointRow, optional32Of}
-use Rattle.decoder.specs.Reading.{Handed, readOf}
+use Rattle.decoder.specs.Reading.{PacketTold, readOf}
 use Rattle.events.specs.Event.{eventOf}
 use Rattle.session.specs.declared.Session.{Session}
 use Rattle.session.specs.Session.{linkOf}
@@ -39,7 +39,7 @@ use Rattle.roundtrip.specs.Told.{IsWhole, whole-is}
 use Rattle.wire.specs.Wire.{usbredir}
 use Rattle.frame.specs.Frame.{headSize, cutAt, bytesAt}
 use Rattle.verdict.specs.Verdict.{verdictOf, handedAs}
-use Rattle.verdict.specs.declared.Handed.{Handed as CodeHanded}
+use Rattle.verdict.specs.declared.Handed.{Handed}
 use Rattle.verdict.specs.declared.Handed.the-variants.{Nothing, Passed}
 use Rattle.gate.specs.declared.Offered.{Offered}
 use Rattle.gate.specs.Offer.{heldAs, heldBytes, barred, Outcome, byCut, offerOf, outcome, bodyIn, dataIn}
@@ -51,7 +51,7 @@ use Rattle.demands.specs.Demand2.{packetAt, Passes, demand-2, judged-cal
 -- ---- the body
 
 -- of a whole packet of n bytes: what was handed out, with the bytes where they lie
-pub record Lends (from : Side) (s : Session) (hold piece : List ℕ) (n : ℕ) (c : CodeHanded) (bytes : List ℕ) : Type 0 where
+pub record Lends (from : Side) (s : Session) (hold piece : List ℕ) (n : ℕ) (c : Handed) (bytes : List ℕ) : Type 0 where
   pub header : Header
   pub packet : Packet
   pub passed : c ≡ Passed header packet
@@ -88,12 +88,12 @@ module _ (from : Side) (s : Session) (hold piece : List ℕ) (h : Passes from s 
       ap (λ (o : Outcome). o .handed) q ∙ ap (λ (m : ℕ). cond (eqb m 0) (readOf l b .handed) none) z
 
   -- the reading hands a packet on, so that the code's is one too, with the reading's header and content
-  lends-by : (bytes : List ℕ) → bytes ≡ b → (c : CodeHanded) → handedAs l bytes c ≡ readOf l b .handed → Lends from s hold piece (h .size) c bytes
+  lends-by : (bytes : List ℕ) → bytes ≡ b → (c : Handed) → handedAs l bytes c ≡ readOf l b .handed → Lends from s hold piece (h .size) c bytes
   unfolding readOf
   lends-by bytes y Nothing e = absurd (Option·none-ne-some _ (rw read-zero at e))
   lends-by bytes y (Passed k p) e =
       let q = Option·some-injective _ _ (rw read-zero at e) in
-      let d : k ≡ headerOf l b = ap (λ (x : Handed). x .header) q in
+      let d : k ≡ headerOf l b = ap (λ (x : PacketTold). x .header) q in
       let body : drop (k .size) bytes ≡ drop (headSize l all) b = ap (λ (x : Header). drop (x .size) bytes) d ∙ ap (λ (m : ℕ). drop m bytes) (same-header .size) ∙ ap (drop (headSize l all)) y in
       let c : length b ≡ h .size = length-take-le (h .size) all (w .there) in
       record {
@@ -103,7 +103,7 @@ module _ (from : Side) (s : Session) (hold piece : List ℕ) (h : Passes from s 
         begins = d;
         body = body;
         body-size = ap length body ∙ length-drop (headSize l all) b ∙ omega (arith, w .size);
-        reading = ap (λ (x : Handed). x .content) q;
+        reading = ap (λ (x : PacketTold). x .content) q;
       }
 
 -- of every call of `gate::offer` that answers 0, whatever the packet's kind
@@ -141,7 +141,7 @@ pub nothing-lent : (from : Side) (s : Session) (hold piece after : List ℕ) (r 
 nothing-lent from s hold piece after r e z bytes =
     go (r .answer .handed) (ap (λ (x : Outcome). x .handed) e ∙ none-handed from s hold piece (λ o. z (ap (λ (x : Outcome). x .number) e ∙ o)))
   where
-    go : (c : CodeHanded) → handedAs (linkOf from s) (bytesAt (r .answer .place) (r .answer .size) piece after) c ≡ none → (bodyIn c bytes ≡ []) × (dataIn c bytes ≡ [])
+    go : (c : Handed) → handedAs (linkOf from s) (bytesAt (r .answer .place) (r .answer .size) piece after) c ≡ none → (bodyIn c bytes ≡ []) × (dataIn c bytes ≡ [])
     go Nothing q = (refl, refl)
     go (Passed h p) q = absurd (Option·none-ne-some _ (sym q))
 

@@ -33,7 +33,7 @@ use Rattle.roundtrip.specs.Cut.{Cut, more, bad, whole}
 use Rattle.roundtrip.specs.Told.{bad-is}
 use Rattle.wire.specs.Wire.{usbredir}
 use Rattle.frame.specs.Frame.{cutAt}
-use Rattle.verdict.specs.Verdict.{Told, verdictOf}
+use Rattle.verdict.specs.Verdict.{VerdictTold, verdictOf}
 use Rattle.gate.specs.Offer.{heldAs, heldBytes, barred, packetTaken, byCut, offerOf}
 use Rattle.gate.specs.Write.{shut, writeBy}
 use Rattle.gate.specs.Laws.{Ready, ready, fit-is}
@@ -83,7 +83,7 @@ module _ (from : Side) (s : Session) (hold piece : List ℕ) where
     -- one that came out of the wire checks is judged
     pub judged-call : wireNumber (linkOf from s) p ≡ 0 → offerOf from s hold piece ≡ packetTaken from s hold piece (judgedOf (heldAs from 0 s) from (take n all)) n
     judged-call w =
-        is-verdict ∙ ap (λ (v : Told). packetTaken from s hold piece v n) (verdict-open (heldAs from 0 s) from (take n all) (whole-number (linkOf from s) all n e ∙ w))
+        is-verdict ∙ ap (λ (v : VerdictTold). packetTaken from s hold piece v n) (verdict-open (heldAs from 0 s) from (take n all) (whole-number (linkOf from s) all n e ∙ w))
 
     judged-zero : wireNumber (linkOf from s) p ≡ 0 → offerOf from s hold piece .number ≡ judged (heldAs from 0 s) (eventOf from p) .number
     judged-zero w = ap (λ o. o .number) (judged-call w)

@@ -20,7 +20,7 @@ use Rattle.header.specs.Link.{passed, own, opposite}
 use Rattle.kinds.specs.Content.{Content}
 use Rattle.kinds.specs.Codec.{decode, encode, readNumber, packetNumber, writeNumber, written, writtenSize, Accepted}
 use Rattle.kinds.specs.RoundTrip.{both-zero}
-use Rattle.decoder.specs.Reading.{Handed, readOf}
+use Rattle.decoder.specs.Reading.{PacketTold, readOf}
 use Rattle.events.specs.Event.{eventOf}
 use Rattle.session.specs.declared.Session.{Session}
 use Rattle.session.specs.Session.{linkOf, unfit}
@@ -32,7 +32,7 @@ use Rattle.roundtrip.specs.Reader.{Answer, Reader, comesOut, Kept, Stopped, Par
 use Rattle.roundtrip.specs.Demand3.{demand3}
 use Rattle.wire.specs.Wire.{usbredir, laws, unshared-number, unsuited-number}
 use Rattle.frame.specs.Frame.{cutAt, completed}
-use Rattle.verdict.specs.Verdict.{Told, verdictOf}
+use Rattle.verdict.specs.Verdict.{VerdictTold, verdictOf}
 use Rattle.gate.specs.Offer.{heldOf, heldAs, heldBytes, heldWhole, isWaiting, barred, Outcome, unmoved, kept, packetTaken, byCut, offerOf}
 use Rattle.encoder.specs.declared.Written.{Written}
 use Rattle.gate.specs.Write.{shut, writeBy, output, outputSize, WritesBy}
@@ -48,7 +48,7 @@ pub record State : Type 0 where
   pub hold : List ℕ
   pub other : List ℕ
 
-abbrev pub contents : Option Handed → List Content
+abbrev pub contents : Option PacketTold → List Content
 contents none = []
 contents (some h) = h .content ∷ []
 
@@ -205,7 +205,7 @@ part-call from x piece o e =
     }
 
 -- a whole packet that passes the wire checks is judged
-abbrev pub judgedOf : Session → Side → List ℕ → Told
+abbrev pub judgedOf : Session → Side → List ℕ → VerdictTold
 judgedOf s from b =
     record {
       session = judged s (eventOf from (decode (linkOf from s) b)) .session;
@@ -234,7 +234,7 @@ full-call from x piece n q o e z d =
     let b : List ℕ = take n (heldBytes from s (x .hold) ++ piece) in
     let j = judged (heldAs from 0 s) (eventOf from (decode (linkOf from s) b)) in
     let k = kept-plain (heldAs from 0 s) (eventOf from (decode (linkOf from s) b)) in
-    let v = offer-open from s (x .hold) piece r ∙ ap (byCut from s (x .hold) piece) e ∙ ap (λ (t : Told). packetTaken from s (x .hold) piece t n) (verdict-open (heldAs from 0 s) from b z) in
+    let v = offer-open from s (x .hold) piece r ∙ ap (byCut from s (x .hold) piece) e ∙ ap (λ (t : VerdictTold). packetTaken from s (x .hold) piece t n) (verdict-open (heldAs from 0 s) from b z) in
     let c : length (heldBytes from s (x .hold)) ≡ heldOf from s = length-take-le (heldOf from s) (x .hold) (omega (arith, r .room, held-few from s (r .fit))) in
     record {
       number = ap (λ (p : Outcome). comesOut (p .number)) v ∙ session-numbers (λ m. comesOut m ≡ true) (refl, (refl, (refl, (refl, (refl, (refl, (refl, (refl, (refl, (refl, (refl, tt))))))))))) (heldAs from 0 s) (eventOf from (decode (linkOf from s) b));

@@ -34,7 +34,7 @@ use Rattle.checks.specs.Checks.{matchOf, numberFor}
 use Rattle.session.specs.declared.Session.{Session}
 use Rattle.session.specs.Session.{freshSession, unfit}
 use Rattle.session.specs.Step.{nextFor, judged}
-use Rattle.decoder.specs.Reading.{Handed, readOf}
+use Rattle.decoder.specs.Reading.{PacketTold, readOf}
 use Rattle.roundtrip.specs.Cut.{cutOf}
 use Rattle.verdict.specs.Verdict.{verdictOf}
 use Rattle.gate.specs.Offer.{barred, offerOf}
@@ -74,7 +74,7 @@ numbers x [] = []
 numbers x (c ∷ cs) = answerTo x c .number ∷ numbers (next x c) cs
 
 -- what the calls hand out: of each packet that passes kind, id and what stands behind its fields
-abbrev toldBy : Option Handed → List ℕ
+abbrev toldBy : Option PacketTold → List ℕ
 toldBy none = []
 toldBy (some h) = h .content .kind ∷ h .content .id ∷ h .content .rest
 

@@ -13,21 +13,21 @@ use Rattle.header.specs.declared.Link.{Link}
 use Rattle.header.specs.Link.{sharedSet}
 use Rattle.packet.specs.declared.Packet.{Packet}
 use Rattle.packet.specs.Same.{same-packet}
-use Rattle.decoder.specs.Reading.{Handed}
-use Rattle.verdict.specs.declared.Handed.{Handed as CodeHanded}
+use Rattle.decoder.specs.Reading.{PacketTold}
+use Rattle.verdict.specs.declared.Handed.{Handed}
 use Rattle.verdict.specs.declared.Handed.the-variants.{Nothing, Passed}
 use Rattle.verdict.specs.Verdict.{handedAs}
 use Rattle.gate.specs.declared.Offered.{Offered}
 use Rattle.gate.specs.Offer.{Outcome, outcome}
 
 -- what is handed out, of any two runs of bytes
-same-handed : (l : Link) (b c : List ℕ) (h k : CodeHanded) → handedAs l b h ≡ handedAs l c k → h ≡ k
+same-handed : (l : Link) (b c : List ℕ) (h k : Handed) → handedAs l b h ≡ handedAs l c k → h ≡ k
 same-handed l b c Nothing Nothing e = refl
 same-handed l b c Nothing (Passed h p) e = absurd (Option·none-ne-some _ e)
 same-handed l b c (Passed h p) Nothing e = absurd (Option·some-ne-none _ e)
 same-handed l b c (Passed h p) (Passed k q) e =
     let o = Option·some-injective _ _ e in
-    let s : p ≡ q = same-packet (sharedSet l) (h .id) (k .id) p q (drop (h .size) b) (drop (k .size) c) (ap (λ (x : Handed). x .content) o) (ap (λ (x : Handed). x .part) o) in
+    let s : p ≡ q = same-packet (sharedSet l) (h .id) (k .id) p q (drop (h .size) b) (drop (k .size) c) (ap (λ (x : PacketTold). x .content) o) (ap (λ (x : PacketTold). x .part) o) in
     λ i. Passed (o i .header) (s i)
 
 pub one-answer : (l : Link) (r t : Offered) (piece hold : List ℕ) → outcome l r piece hold ≡ outcome l t piece hold → r ≡ t

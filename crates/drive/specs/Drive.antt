@@ -12,7 +12,7 @@ use Rattle.number.specs.Little.{le, bytesOf}
 use Rattle.header.specs.declared.Side.{Side}
 use Rattle.header.specs.declared.Side.the-variants.{Guest, Host}
 use Rattle.header.specs.Link.{sideOf}
-use Rattle.decoder.specs.Reading.{Handed}
+use Rattle.decoder.specs.Reading.{PacketTold}
 use Rattle.session.specs.declared.Session.{Session}
 use Rattle.session.specs.Session.{freshSession}
 use Rattle.frame.specs.declared.Place.{Place}
@@ -42,15 +42,15 @@ placeNumber Piece = 1
 placeNumber Buffer = 2
 
 -- where the part that a packet names starts and ends among the packet's bytes, and the packet's id; 0 where nothing is handed out
-abbrev pub startOf : Option Handed → ℕ
+abbrev pub startOf : Option PacketTold → ℕ
 startOf none = 0
 startOf (some h) = h .header .size + h .part .start
 
-abbrev pub endOf : Option Handed → ℕ
+abbrev pub endOf : Option PacketTold → ℕ
 endOf none = 0
 endOf (some h) = h .header .size + h .part .end
 
-abbrev pub idOf : Option Handed → ℕ
+abbrev pub idOf : Option PacketTold → ℕ
 idOf none = 0
 idOf (some h) = h .header .id
 

@@ -23,7 +23,7 @@ use Rattle.frame.specs.declared.Place.{Place}
 use Rattle.frame.specs.Frame.{headSize, cutAt, found, cutFor, completed, placeFor, bytesAt}
 use Rattle.verdict.specs.declared.Verdict.{Verdict}
 use Rattle.verdict.specs.declared.Handed.the-variants.{Nothing}
-use Rattle.verdict.specs.Verdict.{Told, stoppedNow, verdictOf, tells}
+use Rattle.verdict.specs.Verdict.{VerdictTold, stoppedNow, verdictOf, tells}
 use Rattle.gate.specs.declared.Offered.{Offered}
 use Rattle.gate.specs.Offer.{heldOf, heldAs, heldBytes, isWaiting, heldWhole, barred, Outcome, kept, headerRefused, packetTaken, byCut, offerOf, outcome, withoutPacket, Whole}
 use Rattle.gate.specs.Laws.{lies, more-few, whole-here, Ready, ready, held-few}
@@ -101,7 +101,7 @@ module _ (from : Side) (s : Session) (hold piece : List ℕ) {held : ℕ} (eh : 
   packet-is {bytes = bytes} v size taken w et ea ep en eb ev =
       let b : bytes ≡ take size (heldBytes from s hold ++ piece) = eb ∙ rw (ep, ea, eh) (lies hold piece (heldOf from s) size w) in
       let t : tells (linkOf from s) (take size (heldBytes from s hold ++ piece)) v ≡ verdictOf (heldAs from 0 s) from (take size (heldBytes from s hold ++ piece)) = rw (← b) (rw en at ev) in
-      rw (← eb, b, et, ea, ep, eh) ((ap (λ (v : Told). packetTaken from s hold piece v size) t))
+      rw (← eb, b, et, ea, ep, eh) ((ap (λ (v : VerdictTold). packetTaken from s hold piece v size) t))
 
 -- ---- the call
 

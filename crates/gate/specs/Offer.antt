@@ -12,7 +12,7 @@ use Rattle.header.specs.declared.Side.the-variants.{Guest, Host}
 use Rattle.header.specs.declared.Link.{Link}
 use Rattle.header.specs.Link.{passed, own}
 use Rattle.packet.specs.Packet.{inPart, partNamed}
-use Rattle.decoder.specs.Reading.{Handed}
+use Rattle.decoder.specs.Reading.{PacketTold}
 use Rattle.session.specs.declared.Held.{Held}
 use Rattle.session.specs.declared.Session.{Session}
 use Rattle.session.specs.Session.{linkOf, unfit}
@@ -20,8 +20,8 @@ use Rattle.roundtrip.specs.Cut.{Cut, more, bad, whole}
 use Rattle.frame.specs.declared.Place.{Place}
 use Rattle.frame.specs.declared.Place.the-variants.{Nowhere}
 use Rattle.frame.specs.Frame.{headSize, cutAt, isMore, completed, placeFor, bytesAt}
-use Rattle.verdict.specs.Verdict.{Told, stoppedNow, verdictOf, handedAs}
-use Rattle.verdict.specs.declared.Handed.{Handed as CodeHanded}
+use Rattle.verdict.specs.Verdict.{VerdictTold, stoppedNow, verdictOf, handedAs}
+use Rattle.verdict.specs.declared.Handed.{Handed}
 use Rattle.verdict.specs.declared.Handed.the-variants.{Nothing, Passed}
 use Rattle.gate.specs.declared.Offered.{Offered}
 
@@ -70,7 +70,7 @@ pub record Outcome : Type 0 where
   pub place : Place
   pub size : ℕ
   -- at 0, the header, the content and the part of the packet
-  pub handed : Option Handed
+  pub handed : Option PacketTold
   pub hold : List ℕ
 
 -- "takes nothing"; "nothing taken or changed"
@@ -105,7 +105,7 @@ headerRefused from s hold piece n size =
 
 -- a whole packet of so many bytes: the first of what is held with the piece behind it; "After any answer but 1, 2, 3, 41 or 43 the held
 -- count is 0"
-abbrev pub packetTaken : Side → Session → List ℕ → List ℕ → Told → ℕ → Outcome
+abbrev pub packetTaken : Side → Session → List ℕ → List ℕ → VerdictTold → ℕ → Outcome
 packetTaken from s hold piece v size =
     record {
       session = v .session;
@@ -145,11 +145,11 @@ outcome l r piece hold =
     }
 
 -- the body of a packet that is handed out, behind its header, and the part of it that the packet names
-abbrev pub bodyIn : CodeHanded → List ℕ → List ℕ
+abbrev pub bodyIn : Handed → List ℕ → List ℕ
 bodyIn Nothing bytes = []
 bodyIn (Passed h p) bytes = drop (h .size) bytes
 
-abbrev pub dataIn : CodeHanded → List ℕ → List ℕ
+abbrev pub dataIn : Handed → List ℕ → List ℕ
 dataIn Nothing bytes = []
 dataIn (Passed h p) bytes = inPart (partNamed p) (drop (h .size) bytes)
 

@@ -18,7 +18,7 @@ use Rattle.header.specs.Link.{sideOf}
 use Rattle.session.specs.declared.Session.{Session}
 use Rattle.session.specs.Session.{freshSession, linkOf}
 use Rattle.verdict.specs.declared.Verdict.{Verdict}
-use Rattle.verdict.specs.Verdict.{Told, verdictOf, tells}
+use Rattle.verdict.specs.Verdict.{VerdictTold, verdictOf, tells}
 use Rattle.replay.specs.Replay.{sizeAt, verdictAt, numbersOf, Replays}
 
 -- ---- a script
@@ -71,8 +71,8 @@ module _ {script before after : List ℕ} {s : Session} {at k : ℕ} (p : Replay
       → Replaying script before (set after k (v .number)) (v .session) (at + (3 + n)) (k + 1)
   replay-goes-on {n = n} {from = from} {bytes = bytes} v h r en w eb ef by ev =
       let a : verdictOf s from bytes ≡ verdictAt s (drop at script) = rw (ef, eb, by, en, r) in
-      let x : v .number ≡ verdictAt s (drop at script) .number = ap (λ (t : Told). t .number) (ev ∙ a) in
-      let y : v .session ≡ verdictAt s (drop at script) .session = ap (λ (t : Told). t .session) (ev ∙ a) in
+      let x : v .number ≡ verdictAt s (drop at script) .number = ap (λ (t : VerdictTold). t .number) (ev ∙ a) in
+      let y : v .session ≡ verdictAt s (drop at script) .session = ap (λ (t : VerdictTold). t .session) (ev ∙ a) in
       let m : 3 + n ≡ sizeAt (drop at script) = rw (en, r) in
       let l : 3 + n ≤ length (drop at script) = rw r at w in
       let d = length-drop at script in

@@ -12,7 +12,7 @@ use Rattle.number.specs.Little.{le}
 use Rattle.header.specs.Link.{sideOf}
 use Rattle.session.specs.declared.Session.{Session}
 use Rattle.session.specs.Session.{freshSession}
-use Rattle.verdict.specs.Verdict.{Told, verdictOf}
+use Rattle.verdict.specs.Verdict.{VerdictTold, verdictOf}
 
 -- ---- a script: for each packet a byte for its sender, two for its size, and its bytes
 
@@ -23,7 +23,7 @@ sizeAt script = 3 + le 2 script 1
 abbrev pub isWhole : List ℕ → Bool
 isWhole script = leb (sizeAt script) (length script)
 
-abbrev pub verdictAt : Session → List ℕ → Told
+abbrev pub verdictAt : Session → List ℕ → VerdictTold
 verdictAt s script = verdictOf s (sideOf (le 1 script 0)) (slice 3 (sizeAt script) script)
 
 -- the numbers of the script's packets, at most so many

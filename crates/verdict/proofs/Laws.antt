@@ -21,7 +21,7 @@ use Rattle.packet.specs.declared.Packet.{Packet}
 use Rattle.packet.specs.Packet.{contentOf}
 use Rattle.decoder.specs.declared.Reading.{Reading}
 use Rattle.decoder.specs.declared.Reading.the-variants.{Refused, Passed as Read}
-use Rattle.decoder.specs.Reading.{Handed, Told as ReadTold, told, readOf}
+use Rattle.decoder.specs.Reading.{PacketTold, Told, told, readOf}
 use Rattle.decoder.specs.Laws.{refusing, passing}
 use Rattle.events.specs.declared.Event.{Event}
 use Rattle.events.specs.Event.{Means, eventOf}
@@ -34,7 +34,7 @@ use Rattle.verdict.specs.declared.Handed.the-variants.{Nothing, Passed}
 use Rattle.verdict.specs.Verdict.{refusedAs, verdictOf, handedAs, tells, judgedAs}
 
 -- a packet is handed out where its number is 0
-handed-when : (b : Bool) (l : Link) (bytes : List ℕ) (h : Header) (p : Packet) (o : Option Handed) → told l bytes (Read h p) .handed ≡ o
+handed-when : (b : Bool) (l : Link) (bytes : List ℕ) (h : Header) (p : Packet) (o : Option PacketTold) → told l bytes (Read h p) .handed ≡ o
     → handedAs l bytes (cond b (Passed h p) Nothing) ≡ cond b o none
 handed-when true l bytes h p o e = e
 handed-when false l bytes h p o e = refl
@@ -60,5 +60,5 @@ module _ (s : Session) (from : Side) {l : Link} (same-link : l ≡ linkOf from s
       let c : contentOf (sharedSet l) (h .id) p body ≡ decode l bytes = rw (b, take-length bytes) (g .content) in
       let k : j ≡ judged s (eventOf from (decode l bytes)) = rw (← c, ← m (sharedSet l)) ej in
       rw (← same-link, g .number, ev, k)
-      (ap (λ (o : Option Handed). record { session = judged s (eventOf from (decode l bytes)) .session; number = judged s (eventOf from (decode l bytes)) .number; handed = o })
-      (handed-when (eqb (judged s (eventOf from (decode l bytes)) .number) 0) l bytes h p (readOf l bytes .handed) (ap (λ (x : ReadTold). x .handed) (rw q at t))))
+      (ap (λ (o : Option PacketTold). record { session = judged s (eventOf from (decode l bytes)) .session; number = judged s (eventOf from (decode l bytes)) .number; handed = o })
+      (handed-when (eqb (judged s (eventOf from (decode l bytes)) .number) 0) l bytes h p (readOf l bytes .handed) (ap (λ (x : Told). x .handed) (rw q at t))))

@@ -12,14 +12,14 @@ use Rattle.header.specs.Header.{kindOf}
 use Rattle.kinds.specs.Codec.{decode, readNumber}
 use Rattle.packet.specs.declared.Packet.{Packet}
 use Rattle.decoder.specs.declared.Reading.the-variants.{Passed as Read}
-use Rattle.decoder.specs.Reading.{Handed, told, readOf}
+use Rattle.decoder.specs.Reading.{PacketTold, told, readOf}
 use Rattle.events.specs.Event.{eventOf}
 use Rattle.session.specs.declared.Session.{Session}
 use Rattle.session.specs.declared.Judged.{Judged}
 use Rattle.session.specs.Session.{linkOf}
 use Rattle.session.specs.Step.{judged}
 use Rattle.verdict.specs.declared.Verdict.{Verdict}
-use Rattle.verdict.specs.declared.Handed.{Handed as CodeHanded}
+use Rattle.verdict.specs.declared.Handed.{Handed}
 use Rattle.verdict.specs.declared.Handed.the-variants.{Nothing, Passed}
 
 abbrev pub stoppedNow : Session → Session
@@ -31,13 +31,13 @@ abbrev pub refusedAs : Session → ℕ → Session
 refusedAs s kind = cond (eqb kind 0) (stoppedNow s) s
 
 -- what a verdict says: the header, the content and the part of the packet that is handed out, as a reading tells them
-pub record Told : Type 0 where
+pub record VerdictTold : Type 0 where
   pub session : Session
   pub number : ℕ
-  pub handed : Option Handed
+  pub handed : Option PacketTold
 
 -- "10 to 24 are the wire checks, 25 to 34 the session checks": of a packet that passed them all, "what the reader hands out is that reading"
-unfoldable pub verdictOf : Session → Side → List ℕ → Told
+unfoldable pub verdictOf : Session → Side → List ℕ → VerdictTold
 verdictOf s from bytes =
     cond (eqb (readNumber (linkOf from s) bytes) 0)
     (record {
@@ -49,11 +49,11 @@ verdictOf s from bytes =
 
 -- ---- what the code's types say
 
-abbrev pub handedAs : Link → List ℕ → CodeHanded → Option Handed
+abbrev pub handedAs : Link → List ℕ → Handed → Option PacketTold
 handedAs l bytes Nothing = none
 handedAs l bytes (Passed h p) = told l bytes (Read h p) .handed
 
-abbrev pub tells : Link → List ℕ → Verdict → Told
+abbrev pub tells : Link → List ℕ → Verdict → VerdictTold
 tells l bytes v = record { session = v .session; number = v .number; handed = handedAs l bytes (v .handed) }
 
 -- a judged packet in the code: handed out where its number is 0
