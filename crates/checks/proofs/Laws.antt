@@ -11,7 +11,7 @@ use Rattle.requests.specs.declared.Requests.{Requests}
 use Rattle.requests.specs.declared.Found.{Found}
 use Rattle.requests.specs.declared.Found.the-variants.{At, Nowhere}
 use Rattle.requests.specs.declared.Query.the-variants.{Answered}
-use Rattle.requests.specs.Requests.{lowest, told, placeAt}
+use Rattle.requests.specs.Requests.{lowest, foundAt, placeAt}
 use Rattle.events.specs.declared.Event.{Event}
 use Rattle.checks.specs.declared.Traits.{Traits}
 use Rattle.checks.specs.declared.Match.the-variants.{Unmatched, Matched}
@@ -24,9 +24,9 @@ module _ (t : Requests) (e : Event) (a : Traits) (asks : a ≡ traitsOf (e .clas
   unfolding matchOf
   no-reply is = rw (← asks, is)
 
-  module _ (is : a .reply ≡ true) (f : Found) (ends : told f ≡ lowest t (Answered (e .request) (e .answers))) where
+  module _ (is : a .reply ≡ true) (f : Found) (ends : foundAt f ≡ lowest t (Answered (e .request) (e .answers))) where
     -- the match is that of what was found
-    at-place : (z : Found) → f ≡ z → matchIn t (told z) ≡ matchOf t e
+    at-place : (z : Found) → f ≡ z → matchIn t (foundAt z) ≡ matchOf t e
     unfolding matchOf
     at-place z found = rw (← asks, is, ← ends, found)
 

@@ -1,6 +1,6 @@
 // The session checks 25 to 34: each a function of its own, and the number, which is the first of them that holds.
 ghost use mathlib.Core.Path.{_≡_};
-ghost use Rattle.requests.specs.Requests.{told};
+ghost use Rattle.requests.specs.Requests.{foundAt};
 ghost use Rattle.checks.specs.Checks.{traitsOf, isSome, noDevice, ackOwed, isBegun, isDone, outOfOrder, mistypedBy, wrongType, isTransfer, settling, isOpen, streamClosed, idInUse, isFull, matchOf, isUnmatched, isUnsolicited, noSuchRequest, tooLong, numberFor};
 use device::Device;
 use device::Introduction;
@@ -178,7 +178,7 @@ fn is_transfer(e: Event) -> bool
 }
 
 fn is_found(f: Found) -> bool
-    ensures { λ r. ⌜ r ≡ isSome (told f) ⌝ }
+    ensures { λ r. ⌜ r ≡ isSome (foundAt f) ⌝ }
 {
     match f {
         Found::At(_) => true,

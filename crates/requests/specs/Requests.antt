@@ -65,9 +65,9 @@ hasId n p = meets (Id n) p
 unfoldable pub lowest : Requests → Query → Option ℕ
 lowest t q = firstAt (meets q) 0 (t .places)
 
-abbrev pub told : Found → Option ℕ
-told (At i) = some i
-told Nowhere = none
+abbrev pub foundAt : Found → Option ℕ
+foundAt (At i) = some i
+foundAt Nowhere = none
 
 -- ---- taking and freeing
 

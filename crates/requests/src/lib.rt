@@ -2,7 +2,7 @@
 ghost use mathlib.Core.Path.{_≡_};
 ghost use lib.ListN.{drop};
 ghost use Rattle.scan.specs.Scan.{exists};
-ghost use Rattle.requests.specs.Requests.{freePlace, freshRequests, isSetting, isData, answers, meets, hasId, lowest, told, placeAt, withPlace, taken, ends, keptOf, released, idsDiffer};
+ghost use Rattle.requests.specs.Requests.{freePlace, freshRequests, isSetting, isData, answers, meets, hasId, lowest, foundAt, placeAt, withPlace, taken, ends, keptOf, released, idsDiffer};
 ghost use Rattle.requests.specs.Ids.{same, distinct};
 use device::Rows;
 use device::Scope;
@@ -109,7 +109,7 @@ fn meets_query(q: Query, p: Place) -> bool
 
 // The lowest place that meets the query.
 pub fn find(t: Requests, q: Query) -> Found
-    ensures { λ r. ⌜ told r ≡ lowest t q ⌝ }
+    ensures { λ r. ⌜ foundAt r ≡ lowest t q ⌝ }
 {
     let mut i: usize = 0;
     while i < 96 {

@@ -15,7 +15,7 @@ use Rattle.requests.specs.declared.Request.{Request}
 use Rattle.requests.specs.declared.Requests.{Requests}
 use Rattle.requests.specs.declared.Query.the-variants.{Free}
 use Rattle.requests.specs.declared.Found.{Found}
-use Rattle.requests.specs.Requests.{freePlace, lowest, told, withPlace, released}
+use Rattle.requests.specs.Requests.{freePlace, lowest, foundAt, withPlace, released}
 use Rattle.events.specs.declared.Class.{Class}
 use Rattle.events.specs.declared.Event.{Event}
 use Rattle.checks.specs.Checks.{matchOf, numberFor}
@@ -26,8 +26,8 @@ use Rattle.session.specs.Step.{scopeOf, deviceAfter, takenAt, asked, ans
 
 -- ---- a request that takes a place: f is what the search for a free one answered, and z the same as the arm has it
 
-pub asked-by : (t : Requests) (r : Request) (f z : Found) → told f ≡ lowest t Free → f ≡ z → takenAt t r (told z) ≡ asked t r
-asked-by t r f z ends is = ap (takenAt t r) (ap told (sym is) ∙ ends)
+pub asked-by : (t : Requests) (r : Request) (f z : Found) → foundAt f ≡ lowest t Free → f ≡ z → takenAt t r (foundAt z) ≡ asked t r
+asked-by t r f z ends is = ap (takenAt t r) (ap foundAt (sym is) ∙ ends)
 
 -- ---- a reply: u is the table without its request, and s the scope that it ends
 
