@@ -31,7 +31,7 @@ use Rattle.events.specs.declared.Event.{Event}
 use Rattle.events.specs.Meaning.{meanings}
 use Rattle.events.specs.Event.{field, meaningOf, eventOf}
 use Rattle.checks.specs.Checks.{traitsOf, outOfOrder, isBegun, isDone}
-use Rattle.claims.specs.Allowed.{among, isRequest, isReply, answersKind, carriesTarget, wants, onStream, endpointOf, inwardOf, replyTarget, requestOf}
+use Rattle.claims.specs.Allowed.{among, isRequest, isReply, answersKind, carriesTarget, wants, onStream, endpointNamed, inwardOf, replyTarget, requestOf}
 
 -- what the checks go by, of an event or of a packet
 pub record Facts : Type 0 where
@@ -73,7 +73,7 @@ disordered kind d =
 
 abbrev pub rowBy : Option ℕ → Content → Typed
 rowBy none p = Untyped
-rowBy (some k) p = OfEndpoint (endpointOf p) k
+rowBy (some k) p = OfEndpoint (endpointNamed p) k
 
 abbrev pub typedBy : Side → Content → Typed
 typedBy from p = cond (among (18 ∷ 19 ∷ []) (p .kind)) (OfMask (field "mask" p) bulk) (rowBy (wants from (p .kind) (inwardOf p)) p)

@@ -75,11 +75,11 @@ onStream from kind inward = among (102 ∷ 104 ∷ []) kind || hostInterrupt fro
 
 -- ---- what a packet names
 
-abbrev pub endpointOf : Content → Endpoint
-endpointOf p = record { 0 = field "endpoint" p }
+abbrev pub endpointNamed : Content → Endpoint
+endpointNamed p = record { 0 = field "endpoint" p }
 
 abbrev pub inwardOf : Content → Bool
-inwardOf p = isIn (endpointOf p)
+inwardOf p = isIn (endpointNamed p)
 
 -- the endpoint or interface byte of a reply: an interface in 11
 abbrev pub replyTarget : Content → ℕ
@@ -126,12 +126,12 @@ pub record Allowed (s : Session) (from : Side) (p : Content) : Type 0 where
   pub interfaces : p .kind ≡ 4 → s .device .present ≡ false → s .device .introduction ≡ Nothing → ⊥
   pub acknowledgement : p .kind ≡ 24 → s .device .owed ≡ true
   -- 28: the row of its endpoint has the type that it wants; "18, 19 (every mask bit)" bulk
-  pub type : (ty : ℕ) → wants from (p .kind) (inwardOf p) ≡ some ty → stateAt (s .device .rows) (endpointOf p) .«endpoint_type» ≡ ty
+  pub type : (ty : ℕ) → wants from (p .kind) (inwardOf p) ≡ some ty → stateAt (s .device .rows) (endpointNamed p) .«endpoint_type» ≡ ty
   pub types : among (18 ∷ 19 ∷ []) (p .kind) ≡ true → (r : ℕ) → r < length (s .device .rows .rows) → hasBit (field "mask" p) r ≡ true → getD (s .device .rows .rows) r (closedRow 0) .«endpoint_type» ≡ bulk
   -- 29: "guest kinds 100 to 103 while a kind 6 or 9 waits"
   pub settled : isGuest from ≡ true → 100 ≤ p .kind → p .kind ≤ 103 → (i : ℕ) → i < length (s .requests .places) → placeAt (s .requests) i .live ≡ true → oneOf 6 9 (placeAt (s .requests) i .request .kind) ≡ false
   -- 30: "kind 102, host 103 IN and 104 on a closed stream"
-  pub stream : onStream from (p .kind) (inwardOf p) ≡ true → stateAt (s .device .rows) (endpointOf p) .streaming ≡ true
+  pub stream : onStream from (p .kind) (inwardOf p) ≡ true → stateAt (s .device .rows) (endpointNamed p) .streaming ≡ true
   -- 31, 32: "31 if any live request has that id, else 32 if full"
   pub unused : isRequest from (p .kind) ≡ true → (i : ℕ) → i < length (s .requests .places) → placeAt (s .requests) i .live ≡ true → placeAt (s .requests) i .request .id ≡ p .id → ⊥
   pub room : isRequest from (p .kind) ≡ true → (i : ℕ) × (i < length (s .requests .places)) × (placeAt (s .requests) i .live ≡ false)

@@ -50,7 +50,7 @@ use Rattle.checks.specs.Checks.{matchIn, matchOf}
 use Rattle.session.specs.declared.Session.{Session}
 use Rattle.session.specs.Session.{linkOf, isShared}
 use Rattle.session.specs.Step.{keptHello, opens, scopeOf, nextFor, judged}
-use Rattle.claims.specs.Allowed.{among, isRequest, isReply, answersKind, endpointOf, inwardOf}
+use Rattle.claims.specs.Allowed.{among, isRequest, isReply, answersKind, endpointNamed, inwardOf}
 use Rattle.claims.specs.Agree.{answersBy, _also_, Every, by-guest, by-host, by-both, found-kind, answeredAt}
 use Rattle.claims.specs.Steps.{passed}
 use Rattle.claims.specs.Kept.{Sized}
@@ -76,7 +76,7 @@ isRow (At q) r = eqb (q .0) r
 isRow Malformed r = false
 
 abbrev pub names : Content → ℕ → Bool
-names p r = isRow (rowOf (endpointOf p)) r
+names p r = isRow (rowOf (endpointNamed p)) r
 
 -- the kind of the request that a reply answers, 0 where it answers none
 abbrev pub kindIn : Requests → Option ℕ → ℕ
@@ -279,10 +279,10 @@ module _ (s : Session) (p : Content) where
 
   -- after a status, which answers neither
   reported : (d : Rows) (r : ℕ) → r < length (d .rows) → (k : ℕ) → eqb 0 (e .answers .first) ≡ false → answersKind (p .kind) 6 ≡ false → answersKind (p .kind) 9 ≡ false
-      → getD (closed (streamTo d (endpointOf p) k (opens e match)) (scopeOf e match) .rows) r (closedRow 0) ≡ streamedRow d r (endpointOf p) k (eqb (e .status) 0 && eqb (answeredKind t p) (e .answers .first))
+      → getD (closed (streamTo d (endpointNamed p) k (opens e match)) (scopeOf e match) .rows) r (closedRow 0) ≡ streamedRow d r (endpointNamed p) k (eqb (e .status) 0 && eqb (answeredKind t p) (e .answers .first))
   reported d r h k z n m =
       let b = opens e match in
-      let x = endpointOf p in
+      let x = endpointNamed p in
       unchanged (streamTo d x k b) r (rw (stream-length d x k b) h) n m ∙ stream-at d r h x k b ∙ ap (streamedRow d r x k) (opens-is z)
 
 -- ---- for each kind of the table, from whoever may send it
@@ -361,10 +361,10 @@ every-kind =
     also by-guest Moves 9 (λ s id vs rest z. (refl, λ r h. refl))
     also by-guest Moves 10 (λ s id vs rest z. (refl, λ r h. refl))
     also by-host Moves 11 (λ s id vs rest z. (refl, λ r h. altered s (packetOf 11 id vs rest) (s .device .rows) r (within s z r h) refl))
-    also by-guest Moves 12 (λ s id vs rest z. (refl, λ r h. stream-at (s .device .rows) r (within s z r h) (endpointOf (packetOf 12 id vs rest)) iso true))
+    also by-guest Moves 12 (λ s id vs rest z. (refl, λ r h. stream-at (s .device .rows) r (within s z r h) (endpointNamed (packetOf 12 id vs rest)) iso true))
     also by-guest Moves 13 (λ s id vs rest z. (refl, λ r h. refl))
     also by-host Moves 14 (λ s id vs rest z. (refl, λ r h. reported s (packetOf 14 id vs rest) (s .device .rows) r (within s z r h) iso refl refl refl))
-    also by-guest Moves 15 (λ s id vs rest z. (refl, λ r h. stream-at (s .device .rows) r (within s z r h) (endpointOf (packetOf 15 id vs rest)) interrupt true))
+    also by-guest Moves 15 (λ s id vs rest z. (refl, λ r h. stream-at (s .device .rows) r (within s z r h) (endpointNamed (packetOf 15 id vs rest)) interrupt true))
     also by-guest Moves 16 (λ s id vs rest z. (refl, λ r h. refl))
     also by-host Moves 17 (λ s id vs rest z. (refl, λ r h. reported s (packetOf 17 id vs rest) (s .device .rows) r (within s z r h) interrupt refl refl refl))
     also by-guest Moves 18 (λ s id vs rest z. (refl, λ r h. refl))
@@ -374,7 +374,7 @@ every-kind =
     also by-guest Moves 22 (λ s id vs rest z. (refl, λ r h. refl))
     also by-both Moves 23 (λ s id vs rest z. (refl, λ r h. refl)) (λ s id vs rest z. (refl, λ r h. refl))
     also by-guest Moves 24 (λ s id vs rest z. (refl, λ r h. refl))
-    also by-guest Moves 25 (λ s id vs rest z. (refl, λ r h. stream-at (s .device .rows) r (within s z r h) (endpointOf (packetOf 25 id vs rest)) bulk true))
+    also by-guest Moves 25 (λ s id vs rest z. (refl, λ r h. stream-at (s .device .rows) r (within s z r h) (endpointNamed (packetOf 25 id vs rest)) bulk true))
     also by-guest Moves 26 (λ s id vs rest z. (refl, λ r h. refl))
     also by-host Moves 27 (λ s id vs rest z. (refl, λ r h. reported s (packetOf 27 id vs rest) (s .device .rows) r (within s z r h) bulk refl refl refl))
     also by-both Moves 100 (λ s id vs rest z. (refl, λ r h. refl)) (λ s id vs rest z. (refl, λ r h. unchanged s (packetOf 100 id vs rest) (s .device .rows) r (within s z r h) refl refl))

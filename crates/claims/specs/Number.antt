@@ -27,7 +27,7 @@ use Rattle.checks.specs.Checks.{traitsOf, isSome, mistypedBy, streamClosed, set
 use Rattle.session.specs.declared.Session.{Session}
 use Rattle.session.specs.Session.{linkOf}
 use Rattle.session.specs.Step.{judged}
-use Rattle.claims.specs.Allowed.{among, isRequest, isReply, onStream, endpointOf, inwardOf, countOf}
+use Rattle.claims.specs.Allowed.{among, isRequest, isReply, onStream, endpointNamed, inwardOf, countOf}
 use Rattle.claims.specs.Agree.{factsOf, factsBy, disordered, typedBy, answeredAt, agrees}
 use Rattle.claims.specs.Passes.{order-is, types-are, stream-is, stream-at, match-is, answers-is, unsolicited-is}
 use Rattle.claims.specs.Steps.{number-is}
@@ -44,7 +44,7 @@ checksBy s from p =
     ∷ 26 when disordered (p .kind) (s .device)
     ∷ 28 when mistypedBy (s .device .rows) (typedBy from p)
     ∷ 29 when (isGuest from && leb 100 (p .kind) && leb (p .kind) 103 && isSome (lowest (s .requests) Settling))
-    ∷ 30 when (onStream from (p .kind) (inwardOf p) && not (stateAt (s .device .rows) (endpointOf p) .streaming))
+    ∷ 30 when (onStream from (p .kind) (inwardOf p) && not (stateAt (s .device .rows) (endpointNamed p) .streaming))
     ∷ 31 when (isRequest from (p .kind) && isSome (lowest (s .requests) (Id (p .id))))
     ∷ 32 when (isRequest from (p .kind) && not (isSome (lowest (s .requests) Free)))
     ∷ 33 when (isReply from (p .kind) (inwardOf p) && not (isSome (answeredAt (s .requests) p)) && not (among (14 ∷ 17 ∷ 27 ∷ []) (p .kind) && eqb (p .id) 0 && eqb (field "status" p) 4))
@@ -65,7 +65,7 @@ module _ (s : Session) (from : Side) (p : Content) (a : factsOf (eventOf from p)
   abbrev e : Event
   e = eventOf from p
 
-  stream-by : streamClosed (s .device .rows) e ≡ (onStream from (p .kind) (inwardOf p) && not (stateAt (s .device .rows) (endpointOf p) .streaming))
+  stream-by : streamClosed (s .device .rows) e ≡ (onStream from (p .kind) (inwardOf p) && not (stateAt (s .device .rows) (endpointNamed p) .streaming))
   stream-by = stream-is s from p a ∙ same-behind (onStream from (p .kind) (inwardOf p)) _ _ (λ h. ap not (stream-at s from p a h))
 
   module _ (r : isReply from (p .kind) (inwardOf p) ≡ true) where

@@ -40,7 +40,7 @@ use Rattle.checks.specs.declared.Match.{Match}
 use Rattle.checks.specs.declared.Match.the-variants.{Unmatched, Matched}
 use Rattle.checks.specs.Checks.{traitsOf, isSome, noDevice, ackOwed, isBegun, isDone, outOfOrder, mistypedBy, wrongType, isTransfer, settling, isOpen, streamClosed, idInUse, isFull, matchIn, matchOf, isUnsolicited, noSuchRequest, tooLong, numberFor, numberOf}
 use Rattle.session.specs.declared.Session.{Session}
-use Rattle.claims.specs.Allowed.{among, oneOf, isRequest, isReply, answersKind, carriesTarget, wants, onStream, endpointOf, inwardOf, replyTarget, countOf, Answers, Unsolicited, Allowed}
+use Rattle.claims.specs.Allowed.{among, oneOf, isRequest, isReply, answersKind, carriesTarget, wants, onStream, endpointNamed, inwardOf, replyTarget, countOf, Answers, Unsolicited, Allowed}
 use Rattle.claims.specs.Agree.{factsOf, factsBy, disordered, rowBy, typedBy, answersBy, agrees}
 
 -- ---- the number is 0 exactly where no check holds
@@ -253,14 +253,14 @@ module _ (s : Session) (from : Side) (p : Content) (a : factsOf (eventOf from p)
   pub types-are : wrongType (d .rows) e ≡ mistypedBy (d .rows) (typedBy from p)
   types-are = typed-is (d .rows) (traitsOf (e .class) .typed) (e .typed) ∙ (λ i. mistypedBy (d .rows) (a i .typed))
 
-  type-to : wrongType (d .rows) e ≡ false → (k : ℕ) → wants from (p .kind) (inwardOf p) ≡ some k → stateAt (d .rows) (endpointOf p) .«endpoint_type» ≡ k
+  type-to : wrongType (d .rows) e ≡ false → (k : ℕ) → wants from (p .kind) (inwardOf p) ≡ some k → stateAt (d .rows) (endpointNamed p) .«endpoint_type» ≡ k
   type-to h k w = cases (among (18 ∷ 19 ∷ []) (p .kind)) masked plain
     where
-      masked : among (18 ∷ 19 ∷ []) (p .kind) ≡ true → stateAt (d .rows) (endpointOf p) .«endpoint_type» ≡ k
+      masked : among (18 ∷ 19 ∷ []) (p .kind) ≡ true → stateAt (d .rows) (endpointNamed p) .«endpoint_type» ≡ k
       masked m = absurd (Option·none-ne-some k (sym (mask-wants from (p .kind) (inwardOf p) m) ∙ w))
 
-      plain : among (18 ∷ 19 ∷ []) (p .kind) ≡ false → stateAt (d .rows) (endpointOf p) .«endpoint_type» ≡ k
-      plain m = eqb-true (stateAt (d .rows) (endpointOf p) .«endpoint_type») k (not-false _ (sym (rw (m, w)) ∙ sym types-are ∙ h))
+      plain : among (18 ∷ 19 ∷ []) (p .kind) ≡ false → stateAt (d .rows) (endpointNamed p) .«endpoint_type» ≡ k
+      plain m = eqb-true (stateAt (d .rows) (endpointNamed p) .«endpoint_type») k (not-false _ (sym (rw (m, w)) ∙ sym types-are ∙ h))
 
   types-to : wrongType (d .rows) e ≡ false → among (18 ∷ 19 ∷ []) (p .kind) ≡ true → (r : ℕ) → r < length (d .rows .rows) → hasBit (field "mask" p) r ≡ true → getD (d .rows .rows) r (closedRow 0) .«endpoint_type» ≡ bulk
   types-to h m r l b =
@@ -268,7 +268,7 @@ module _ (s : Session) (from : Side) (p : Content) (a : factsOf (eventOf from p)
       let here : mistyped (field "mask" p) bulk r (getD (d .rows .rows) r (closedRow 0)) ≡ false = ap (λ (n : ℕ). mistyped (field "mask" p) bulk n (getD (d .rows .rows) r (closedRow 0))) (sym (zero-add r)) ∙ any-absent (mistyped (field "mask" p) bulk) (d .rows .rows) 0 (closedRow 0) none-such r l in
       eqb-true _ bulk (not-false _ (fails (hasBit (field "mask" p) r) _ here b))
 
-  type-from : ((k : ℕ) → wants from (p .kind) (inwardOf p) ≡ some k → stateAt (d .rows) (endpointOf p) .«endpoint_type» ≡ k)
+  type-from : ((k : ℕ) → wants from (p .kind) (inwardOf p) ≡ some k → stateAt (d .rows) (endpointNamed p) .«endpoint_type» ≡ k)
       → (among (18 ∷ 19 ∷ []) (p .kind) ≡ true → (r : ℕ) → r < length (d .rows .rows) → hasBit (field "mask" p) r ≡ true → getD (d .rows .rows) r (closedRow 0) .«endpoint_type» ≡ bulk)
       → wrongType (d .rows) e ≡ false
   type-from f g = types-are ∙ cases (among (18 ∷ 19 ∷ []) (p .kind)) masked (λ m. rw m (wanted (wants from (p .kind) (inwardOf p)) refl))
@@ -302,13 +302,13 @@ module _ (s : Session) (from : Side) (p : Content) (a : factsOf (eventOf from p)
   stream-is = open-is (d .rows) (traitsOf (e .class) .streamed) (e .typed) ∙ (λ i. a i .streamed && not (isOpen (d .rows) (a i .stream)))
 
   -- of what comes on a stream, the stream is that of its endpoint's row
-  pub stream-at : onStream from (p .kind) (inwardOf p) ≡ true → isOpen (d .rows) (cond (onStream from (p .kind) (inwardOf p)) (rowBy (wants from (p .kind) (inwardOf p)) p) Untyped) ≡ stateAt (d .rows) (endpointOf p) .streaming
+  pub stream-at : onStream from (p .kind) (inwardOf p) ≡ true → isOpen (d .rows) (cond (onStream from (p .kind) (inwardOf p)) (rowBy (wants from (p .kind) (inwardOf p)) p) Untyped) ≡ stateAt (d .rows) (endpointNamed p) .streaming
   stream-at h = let w = stream-wants from (p .kind) (inwardOf p) h in rw (h, w .1)
 
-  stream-to : streamClosed (d .rows) e ≡ false → onStream from (p .kind) (inwardOf p) ≡ true → stateAt (d .rows) (endpointOf p) .streaming ≡ true
+  stream-to : streamClosed (d .rows) e ≡ false → onStream from (p .kind) (inwardOf p) ≡ true → stateAt (d .rows) (endpointNamed p) .streaming ≡ true
   stream-to h o = sym (stream-at o) ∙ not-false _ (fails (onStream from (p .kind) (inwardOf p)) _ (sym stream-is ∙ h) o)
 
-  stream-from : (onStream from (p .kind) (inwardOf p) ≡ true → stateAt (d .rows) (endpointOf p) .streaming ≡ true) → streamClosed (d .rows) e ≡ false
+  stream-from : (onStream from (p .kind) (inwardOf p) ≡ true → stateAt (d .rows) (endpointNamed p) .streaming ≡ true) → streamClosed (d .rows) e ≡ false
   stream-from f = stream-is ∙ failing (onStream from (p .kind) (inwardOf p)) _ (λ o. false-not _ (stream-at o ∙ f o))
 
   -- 31
