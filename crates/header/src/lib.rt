@@ -40,7 +40,7 @@ pub fn side_of(n: u8) -> Side
 }
 
 // The capability word that a hello has offered so far.
-pub fn offer(h: Hello) -> u32
+pub fn offered(h: Hello) -> u32
     ensures { λ r. ⌜ r ≡ offered h ⌝ }
 {
     match h {
@@ -55,7 +55,7 @@ pub fn shared_set(l: Link) -> u32
 {
     let guest = l.guest;
     let host = l.host;
-    offer(guest) & offer(host)
+    offered(guest) & offered(host)
 }
 
 pub fn has_passed(h: Hello) -> bool
