@@ -19,7 +19,7 @@ use Rattle.header.specs.declared.Side.{Side}
 use Rattle.header.specs.declared.Side.the-variants.{Guest, Host}
 use Rattle.capture.specs.declared.Line.{Line}
 use Rattle.capture.specs.declared.Line.the-variants.{Bad, Piece}
-use Rattle.capture.specs.Lines.{sideField, startOf, startsWith, allHex, isSpelling, spelt, Offered, pieceOf, lineOf, toldOf, laidOf, Decodes, digits, answerLine, totalsLine}
+use Rattle.capture.specs.Lines.{sideField, startOf, startsWith, allHex, isSpelling, spelt, SentPiece, pieceOf, lineOf, toldOf, laidOf, Decodes, digits, answerLine, totalsLine}
 
 -- ---- input lines
 
@@ -30,7 +30,7 @@ length-spelt (a ∷ []) = refl
 length-spelt (a ∷ b ∷ s) = omega (arith, length-spelt s)
 
 -- the bytes that are offered, if any
-abbrev pub offeredBytes : Option Offered → List ℕ
+abbrev pub offeredBytes : Option SentPiece → List ℕ
 offeredBytes none = []
 offeredBytes (some p) = p .bytes
 
@@ -48,18 +48,18 @@ line-short line =
     go (startsWith (startOf Guest) line) _ _ (piece-short Guest (drop (length (startOf Guest)) line))
     (go (startsWith (startOf Host) line) _ none (piece-short Host (drop (length (startOf Host)) line)) (omega arith))
   where
-    go : (b : Bool) (x y : Option Offered) → length (offeredBytes x) ≤ 2048 → length (offeredBytes y) ≤ 2048
+    go : (b : Bool) (x y : Option SentPiece) → length (offeredBytes x) ≤ 2048 → length (offeredBytes y) ≤ 2048
         → length (offeredBytes (cond b x y)) ≤ 2048
     go true x y h k = h
     go false x y h k = k
 
-offered-none : (p : Option Offered) → Bad ≡ toldOf p → p ≡ none
+offered-none : (p : Option SentPiece) → Bad ≡ toldOf p → p ≡ none
 offered-none none e = refl
 offered-none (some p) e =
     let z : _≡_ {A = ℕ} 0 1 = cc in
     absurd (omega arith)
 
-offered-some : (p : Option Offered) {from : Side} {n : ℕ} → Piece from n ≡ toldOf p
+offered-some : (p : Option SentPiece) {from : Side} {n : ℕ} → Piece from n ≡ toldOf p
     → (p ≡ some (record { from = from; bytes = offeredBytes p })) × (length (offeredBytes p) ≡ n)
 offered-some none e =
     let z : _≡_ {A = ℕ} 0 1 = cc in
@@ -73,7 +73,7 @@ module _ (line : List ℕ) {out after : List ℕ} {r : Line} (d : Decodes (lineO
   pub told-bad : r ≡ Bad → (lineOf line ≡ none) × (after ≡ out)
   told-bad e =
       let q = offered-none (lineOf line) (sym e ∙ d .told) in
-      (q, d .output ∙ ap (λ (p : Option Offered). laidOf p out) q)
+      (q, d .output ∙ ap (λ (p : Option SentPiece). laidOf p out) q)
 
   -- where the output has room for every piece, what was offered stands at its front
   pub told-piece : {from : Side} {n : ℕ} → r ≡ Piece from n → 2048 ≤ length out
@@ -82,7 +82,7 @@ module _ (line : List ℕ) {out after : List ℕ} {r : Line} (d : Decodes (lineO
       let q = offered-some (lineOf line) (sym e ∙ d .told) in
       let b = offeredBytes (lineOf line) in
       let s = line-short line in
-      let l : after ≡ b ++ drop (0 + length b) out = d .output ∙ ap (λ (p : Option Offered). laidOf p out) (q .0) ∙ sets-eq b out 0 (omega arith) in
+      let l : after ≡ b ++ drop (0 + length b) out = d .output ∙ ap (λ (p : Option SentPiece). laidOf p out) (q .0) ∙ sets-eq b out 0 (omega arith) in
       let t : take n after ≡ b = ap (take n) l ∙ take-at b (drop (0 + length b) out) n (q .1) in
       (rw t (q .0), omega (arith, q .1))
 

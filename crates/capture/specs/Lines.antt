@@ -64,30 +64,30 @@ spelt (a ∷ []) = []
 spelt (a ∷ b ∷ l) = (16 * hexValue a + hexValue b) ∷ spelt l
 
 -- "Each is one piece": who sends it, and its bytes
-pub record Offered : Type 0 where
+pub record SentPiece : Type 0 where
   pub from : Side
   pub bytes : List ℕ
 
-abbrev pub pieceOf : Side → List ℕ → Option Offered
+abbrev pub pieceOf : Side → List ℕ → Option SentPiece
 pieceOf from l = cond (isSpelling l) (some (record { from = from; bytes = spelt l })) none
 
 -- what a line offers; one that can't be decoded offers nothing
-unfoldable pub lineOf : List ℕ → Option Offered
+unfoldable pub lineOf : List ℕ → Option SentPiece
 lineOf l =
     cond (startsWith (startOf Guest) l) (pieceOf Guest (drop (length (startOf Guest)) l))
     (cond (startsWith (startOf Host) l) (pieceOf Host (drop (length (startOf Host)) l))
     none)
 
-abbrev pub toldOf : Option Offered → Line
+abbrev pub toldOf : Option SentPiece → Line
 toldOf none = Bad
 toldOf (some p) = Piece (p .from) (length (p .bytes))
 
 -- the bytes stand at the front of the output, as far as it goes; a bad line leaves it as it was
-abbrev pub laidOf : Option Offered → List ℕ → List ℕ
+abbrev pub laidOf : Option SentPiece → List ℕ → List ℕ
 laidOf none out = out
 laidOf (some p) out = sets out 0 (p .bytes)
 
-pub record Decodes (p : Option Offered) (out : List ℕ) (r : Line) (after : List ℕ) : Type 0 where
+pub record Decodes (p : Option SentPiece) (out : List ℕ) (r : Line) (after : List ℕ) : Type 0 where
   pub told : r ≡ toldOf p
   pub output : after ≡ laidOf p out
 

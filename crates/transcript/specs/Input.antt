@@ -12,7 +12,7 @@ use Rattle.header.specs.declared.Side.{Side}
 use Rattle.header.specs.declared.Side.the-variants.{Guest, Host}
 use Rattle.session.specs.declared.Session.{Session}
 use Rattle.session.specs.Session.{freshSession}
-use Rattle.capture.specs.Lines.{Offered, lineOf, totalsLine, badLine, largest}
+use Rattle.capture.specs.Lines.{SentPiece, lineOf, totalsLine, badLine, largest}
 use Rattle.transcript.specs.declared.Totals.{Totals}
 use Rattle.transcript.specs.declared.Reported.{Reported}
 use Rattle.transcript.specs.declared.Lined.{Lined}
@@ -34,7 +34,7 @@ holdOf Guest p = p .guest
 holdOf Host p = p .host
 
 -- "Each is one piece"
-abbrev pub pieceReport : Progress → Offered → Report
+abbrev pub pieceReport : Progress → SentPiece → Report
 pieceReport p o = reportOf (o .from) (p .session) (p .totals) (holdOf (o .from) p) (o .bytes)
 
 abbrev pub movedBy : Side → Progress → Report → Progress
@@ -48,7 +48,7 @@ pub record Step : Type 0 where
   pub bad : Bool
 
 -- "An undecodable line prints `line=bad` and ends input"
-abbrev pub stepOf : Progress → Option Offered → Step
+abbrev pub stepOf : Progress → Option SentPiece → Step
 stepOf p none = record { next = p; prints = badLine; bad = true }
 stepOf p (some o) = record { next = movedBy (o .from) p (pieceReport p o); prints = pieceReport p o .lines; bad = false }
 

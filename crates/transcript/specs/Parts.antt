@@ -16,7 +16,7 @@ use lib.Dec.{eqb, ltb}
 use borrow.Author.Tests.{ltb-true, ltb-false, lt-leb}
 use Rattle.number.specs.Logic.{or-parts}
 use Rattle.header.specs.declared.Side.the-variants.{Guest, Host}
-use Rattle.capture.specs.Lines.{startOf, startsWith, allHex, isSpelling, Offered, lineOf}
+use Rattle.capture.specs.Lines.{startOf, startsWith, allHex, isSpelling, SentPiece, lineOf}
 use Rattle.capture.specs.Laws.{offeredBytes, line-short}
 use Rattle.transcript.specs.declared.Next.{Next}
 use Rattle.transcript.specs.declared.Next.the-variants.{Line, Wait}
@@ -28,7 +28,7 @@ use Rattle.transcript.specs.Laws.{lines-short}
 pub prints-short : (p : Progress) (line : List ℕ) → length (stepOf p (lineOf line) .prints) ≤ 239616
 prints-short p line = go (lineOf line) (line-short line)
   where
-    go : (o : Option Offered) → length (offeredBytes o) ≤ 2048 → length (stepOf p o .prints) ≤ 239616
+    go : (o : Option SentPiece) → length (offeredBytes o) ≤ 2048 → length (stepOf p o .prints) ≤ 239616
     go none h = omega arith
     go (some o) h =
         omega (arith, lines-short (length (o .bytes)) (o .from) (record { session = p .session; totals = p .totals; lines = []; hold = holdOf (o .from) p }) (o .bytes))
@@ -156,7 +156,7 @@ long-bad line h =
     rw (no-spelling (drop 17 line) (omega (arith, length-drop 17 line)), no-spelling (drop 16 line) (omega (arith, length-drop 16 line)))
     (go (startsWith (startOf Guest) line) (startsWith (startOf Host) line))
   where
-    go : (a b : Bool) → _≡_ {A = Option Offered} (cond a none (cond b none none)) none
+    go : (a b : Bool) → _≡_ {A = Option SentPiece} (cond a none (cond b none none)) none
     go true b = refl
     go false true = refl
     go false false = refl
