@@ -100,7 +100,7 @@ requestOf p = record { id = p .id; kind = p .kind; target = requestTarget p; len
 -- ---- the request that a reply answers
 
 -- the live request at place i has the reply's id, a kind that it answers and, where both carry one, its endpoint or interface
-pub record Answers (t : Requests) (p : Content) (i : ℕ) : Type 0 where
+pub record AnsweredBy (t : Requests) (p : Content) (i : ℕ) : Type 0 where
   pub place : i < length (t .places)
   pub live : placeAt t i .live ≡ true
   pub id : placeAt t i .request .id ≡ p .id
@@ -112,7 +112,7 @@ pub record Unsolicited (t : Requests) (p : Content) : Type 0 where
   pub kind : among (14 ∷ 17 ∷ 27 ∷ []) (p .kind) ≡ true
   pub id : p .id ≡ 0
   pub status : field "status" p ≡ 4
-  pub unmatched : (i : ℕ) → Answers t p i → ⊥
+  pub unmatched : (i : ℕ) → AnsweredBy t p i → ⊥
 
 -- ---- the packet is allowed
 
@@ -136,4 +136,4 @@ pub record Allowed (s : Session) (from : Side) (p : Content) : Type 0 where
   pub unused : isRequest from (p .kind) ≡ true → (i : ℕ) → i < length (s .requests .places) → placeAt (s .requests) i .live ≡ true → placeAt (s .requests) i .request .id ≡ p .id → ⊥
   pub room : isRequest from (p .kind) ≡ true → (i : ℕ) × (i < length (s .requests .places)) × (placeAt (s .requests) i .live ≡ false)
   -- 33, 34: an outstanding request that it answers, and its length is not over that request's; or it is unsolicited
-  pub reply : isReply from (p .kind) (inwardOf p) ≡ true → ((i : ℕ) × Answers (s .requests) p i × (countOf p ≤ placeAt (s .requests) i .request .length)) ⊎ Unsolicited (s .requests) p
+  pub reply : isReply from (p .kind) (inwardOf p) ≡ true → ((i : ℕ) × AnsweredBy (s .requests) p i × (countOf p ≤ placeAt (s .requests) i .request .length)) ⊎ Unsolicited (s .requests) p

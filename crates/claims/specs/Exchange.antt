@@ -37,7 +37,7 @@ use Rattle.checks.specs.Checks.{traitsOf, isSome, mistypedBy, isOpen, matchIn, 
 use Rattle.session.specs.declared.Session.{Session}
 use Rattle.session.specs.Session.{linkOf}
 use Rattle.session.specs.Step.{scopeOf, nextFor, judged}
-use Rattle.claims.specs.Allowed.{among, oneOf, isRequest, isReply, answersKind, carriesTarget, inwardOf, countOf, requestOf, Answers, Unsolicited, Allowed}
+use Rattle.claims.specs.Allowed.{among, oneOf, isRequest, isReply, answersKind, carriesTarget, inwardOf, countOf, requestOf, AnsweredBy, Unsolicited, Allowed}
 use Rattle.claims.specs.Agree.{factsOf, factsBy, agrees}
 use Rattle.claims.specs.Passes.{holds-none, passes, answers-to, match-is, alone-to, reply-from, unsolicited-is}
 use Rattle.claims.specs.Steps.{number-is, request-takes, from-host, reply-does, none-held, Freed, reply-frees, unmatched-keeps, NoLive, answered-once, late-reply}
@@ -68,7 +68,7 @@ pub record EndsWith (s : Session) (p : Content) (i j : ℕ) : Type 0 where
 -- the reply is handed to the request at place i
 pub record Consumes (s : Session) (p : Content) (next : Session) (i : ℕ) : Type 0 where
   -- a live one with its id, of a kind that it answers, on its endpoint or interface; and the reply is not longer
-  pub answers : Answers (s .requests) p i
+  pub answers : AnsweredBy (s .requests) p i
   pub short : countOf p ≤ placeAt (s .requests) i .request .length
   -- no other live request has that id
   pub only : (j : ℕ) → j < length (s .requests .places) → placeAt (s .requests) j .live ≡ true → placeAt (s .requests) j .request .id ≡ p .id → j ≡ i
@@ -146,12 +146,12 @@ module _ (s : Session) (from : Side) (p : Content) (w : wireNumber (linkOf from 
 
     -- of a reply no check asks but 25, 33 and 34
     pub reply-passes : idsDiffer (s .requests .places) ≡ true → s .device .present ≡ true
-        → (judged s e .number ≡ 0) ↔ (((i : ℕ) × Answers (s .requests) p i × (countOf p ≤ placeAt (s .requests) i .request .length)) ⊎ Unsolicited (s .requests) p)
+        → (judged s e .number ≡ 0) ↔ (((i : ℕ) × AnsweredBy (s .requests) p i × (countOf p ≤ placeAt (s .requests) i .request .length)) ⊎ Unsolicited (s .requests) p)
     unfolding numberOf
     reply-passes u h = (λ z. allowed-exactly u .0 z .reply r, zero-number)
       where
         -- 33 and 34 do not hold by what is given, and with a device there the others ask nothing of a host's reply
-        zero-number : ((i : ℕ) × Answers (s .requests) p i × (countOf p ≤ placeAt (s .requests) i .request .length)) ⊎ Unsolicited (s .requests) p → judged s e .number ≡ 0
+        zero-number : ((i : ℕ) × AnsweredBy (s .requests) p i × (countOf p ≤ placeAt (s .requests) i .request .length)) ⊎ Unsolicited (s .requests) p → judged s e .number ≡ 0
         zero-number x =
             let f = reply-from s from p agreed u (λ k. x) in
             let c = reply-does (e .class) replying in
@@ -172,12 +172,12 @@ module _ (s : Session) (from : Side) (p : Content) (w : wireNumber (linkOf from 
             })
 
     -- a reply to a set alt names the interface of its request
-    same-interface : (i : ℕ) → Answers (s .requests) p i → placeAt (s .requests) i .request .kind ≡ 9 → placeAt (s .requests) i .request .target ≡ e .request .target
+    same-interface : (i : ℕ) → AnsweredBy (s .requests) p i → placeAt (s .requests) i .request .kind ≡ 9 → placeAt (s .requests) i .request .target ≡ e .request .target
     same-interface i a nine =
         let eleven : p .kind ≡ 11 = alt-reply from (p .kind) (inwardOf p) r (sym (ap (answersKind (p .kind)) nine) ∙ a .kind) in
         a .target (ap carriesTarget eleven) ∙ ap (λ (n : ℕ). cond (eqb n 11) (field "interface" p) (field "endpoint" p)) eleven ∙ sym (alt-target from p eleven)
 
-    module _ (i : ℕ) (a : Answers (s .requests) p i) (j : ℕ) where
+    module _ (i : ℕ) (a : AnsweredBy (s .requests) p i) (j : ℕ) where
       abbrev q : Request
       q = placeAt (s .requests) i .request
 

@@ -40,7 +40,7 @@ use Rattle.checks.specs.declared.Match.{Match}
 use Rattle.checks.specs.declared.Match.the-variants.{Unmatched, Matched}
 use Rattle.checks.specs.Checks.{traitsOf, isSome, noDevice, ackOwed, isBegun, isDone, outOfOrder, mistypedBy, wrongType, isTransfer, settling, isOpen, streamClosed, idInUse, isFull, matchIn, matchOf, isUnsolicited, noSuchRequest, tooLong, numberFor, numberOf}
 use Rattle.session.specs.declared.Session.{Session}
-use Rattle.claims.specs.Allowed.{among, oneOf, isRequest, isReply, answersKind, carriesTarget, wants, onStream, endpointNamed, inwardOf, replyTarget, countOf, Answers, Unsolicited, Allowed}
+use Rattle.claims.specs.Allowed.{among, oneOf, isRequest, isReply, answersKind, carriesTarget, wants, onStream, endpointNamed, inwardOf, replyTarget, countOf, AnsweredBy, Unsolicited, Allowed}
 use Rattle.claims.specs.Agree.{factsOf, factsBy, disordered, rowBy, typedBy, answersBy, agrees}
 
 -- ---- the number is 0 exactly where no check holds
@@ -349,7 +349,7 @@ module _ (s : Session) (from : Side) (p : Content) (a : factsOf (eventOf from p)
     pub answers-is : (q : Request) → answers (e .request) (e .answers) q ≡ answersBy p q
     answers-is q = sym (rw replies) ∙ (λ i. a i .answers q) ∙ rw r
 
-    pub answers-to : (i : ℕ) → i < length (t .places) → meets query (placeAt t i) ≡ true → Answers t p i
+    pub answers-to : (i : ℕ) → i < length (t .places) → meets query (placeAt t i) ≡ true → AnsweredBy t p i
     answers-to i n m =
         let q = placeAt t i .request in
         let v = and-parts (placeAt t i .live) (answers (e .request) (e .answers) q) m in
@@ -363,7 +363,7 @@ module _ (s : Session) (from : Side) (p : Content) (a : factsOf (eventOf from p)
           target = λ c. eqb-true (q .target) (replyTarget p) (implied (carriesTarget (p .kind)) (eqb (q .target) (replyTarget p)) (w .1) c);
         }
 
-    answers-from : (i : ℕ) → Answers t p i → meets query (placeAt t i) ≡ true
+    answers-from : (i : ℕ) → AnsweredBy t p i → meets query (placeAt t i) ≡ true
     answers-from i w =
         let q = placeAt t i .request in
         and-whole (placeAt t i .live) _ (w .live)
@@ -390,27 +390,27 @@ module _ (s : Session) (from : Side) (p : Content) (a : factsOf (eventOf from p)
           unmatched = λ i z. false≢true (sym (none-when t query (ap isSome o) i (z .place)) ∙ answers-from i z);
         }
 
-    found-to : (i : ℕ) → lowest t query ≡ some i → tooLong e (Matched i (placeAt t i .request)) ≡ false → Answers t p i × (countOf p ≤ placeAt t i .request .length)
+    found-to : (i : ℕ) → lowest t query ≡ some i → tooLong e (Matched i (placeAt t i .request)) ≡ false → AnsweredBy t p i × (countOf p ≤ placeAt t i .request .length)
     unfolding lowest eventOf
     found-to i o h =
         let w = first-found (meets query) (t .places) i freePlace o in
         (answers-to i (w .0) (w .1), ltb-false (placeAt t i .request .length) (countOf p) h)
 
-    reply-to : noSuchRequest e (matchOf t e) ≡ false → tooLong e (matchOf t e) ≡ false → ((i : ℕ) × Answers t p i × (countOf p ≤ placeAt t i .request .length)) ⊎ Unsolicited t p
+    reply-to : noSuchRequest e (matchOf t e) ≡ false → tooLong e (matchOf t e) ≡ false → ((i : ℕ) × AnsweredBy t p i × (countOf p ≤ placeAt t i .request .length)) ⊎ Unsolicited t p
     reply-to h l = go (lowest t query) refl
       where
         at : (o : Option ℕ) → lowest t query ≡ o → matchOf t e ≡ matchIn t o
         at o z = match-is ∙ ap (matchIn t) z
 
-        go : (o : Option ℕ) → lowest t query ≡ o → ((i : ℕ) × Answers t p i × (countOf p ≤ placeAt t i .request .length)) ⊎ Unsolicited t p
+        go : (o : Option ℕ) → lowest t query ≡ o → ((i : ℕ) × AnsweredBy t p i × (countOf p ≤ placeAt t i .request .length)) ⊎ Unsolicited t p
         go none z = inr (alone-to z (sym (ap (noSuchRequest e) (at none z)) ∙ h))
         go (some i) z = let w = found-to i z (sym (ap (tooLong e) (at (some i) z)) ∙ l) in inl (i, w .0, w .1)
 
     -- one live request has the reply's id, so the one that is found is the one that is meant
-    one-match : idsDiffer (t .places) ≡ true → (i j : ℕ) → Answers t p i → Answers t p j → i ≡ j
+    one-match : idsDiffer (t .places) ≡ true → (i j : ℕ) → AnsweredBy t p i → AnsweredBy t p j → i ≡ j
     one-match u i j v w = differ-when (t .places) u i j (v .place) (w .place) (v .live) (w .live) (v .id ∙ sym (w .id))
 
-    matched-from : idsDiffer (t .places) ≡ true → (i : ℕ) → Answers t p i → countOf p ≤ placeAt t i .request .length → (noSuchRequest e (matchOf t e) ≡ false) × (tooLong e (matchOf t e) ≡ false)
+    matched-from : idsDiffer (t .places) ≡ true → (i : ℕ) → AnsweredBy t p i → countOf p ≤ placeAt t i .request .length → (noSuchRequest e (matchOf t e) ≡ false) × (tooLong e (matchOf t e) ≡ false)
     unfolding lowest eventOf
     matched-from u i w l =
         let f = first-some (meets query) (t .places) freePlace i (w .place) (answers-from i w) in
@@ -439,10 +439,10 @@ module _ (s : Session) (from : Side) (p : Content) (a : factsOf (eventOf from p)
       let m : matchOf t e ≡ Unmatched = rw n in
       (rw n, ap (tooLong e) m)
 
-  pub reply-from : idsDiffer (t .places) ≡ true → (isReply from (p .kind) (inwardOf p) ≡ true → ((i : ℕ) × Answers t p i × (countOf p ≤ placeAt t i .request .length)) ⊎ Unsolicited t p) → (noSuchRequest e (matchOf t e) ≡ false) × (tooLong e (matchOf t e) ≡ false)
+  pub reply-from : idsDiffer (t .places) ≡ true → (isReply from (p .kind) (inwardOf p) ≡ true → ((i : ℕ) × AnsweredBy t p i × (countOf p ≤ placeAt t i .request .length)) ⊎ Unsolicited t p) → (noSuchRequest e (matchOf t e) ≡ false) × (tooLong e (matchOf t e) ≡ false)
   reply-from u f = cases (isReply from (p .kind) (inwardOf p)) (λ r. go r (f r)) no-reply
     where
-      go : isReply from (p .kind) (inwardOf p) ≡ true → ((i : ℕ) × Answers t p i × (countOf p ≤ placeAt t i .request .length)) ⊎ Unsolicited t p → (noSuchRequest e (matchOf t e) ≡ false) × (tooLong e (matchOf t e) ≡ false)
+      go : isReply from (p .kind) (inwardOf p) ≡ true → ((i : ℕ) × AnsweredBy t p i × (countOf p ≤ placeAt t i .request .length)) ⊎ Unsolicited t p → (noSuchRequest e (matchOf t e) ≡ false) × (tooLong e (matchOf t e) ≡ false)
       go r (inl w) = matched-from r u (w .0) (w .1) (w .2)
       go r (inr w) = alone-from r w
 
