@@ -109,7 +109,7 @@ outOfOrder d StreamData = false
 
 abbrev pub mistypedBy : Rows → Typed → Bool
 mistypedBy rows Untyped = false
-mistypedBy rows (OfEndpoint e ty) = not (eqb (stateAt rows e .«endpoint_type») ty)
+mistypedBy rows (OfEndpoint e ty) = not (eqb (stateAt rows e .ty) ty)
 mistypedBy rows (OfMask m ty) = maskMistyped rows m ty
 
 abbrev pub wrongType : Rows → Event → Bool

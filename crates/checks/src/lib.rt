@@ -153,7 +153,7 @@ fn mistyped_by(rows: Rows, typed: Typed) -> bool
         Typed::Untyped => false,
         Typed::OfEndpoint(endpoint, ty) => {
             let r = state_at(rows, endpoint);
-            r.endpoint_type != ty
+            r.ty != ty
         }
         Typed::OfMask(mask, ty) => mask_mistyped(rows, mask, ty),
     }

@@ -126,8 +126,8 @@ pub record Allowed (s : Session) (from : Side) (p : Content) : Type 0 where
   pub interfaces : p .kind ≡ 4 → s .device .present ≡ false → s .device .introduction ≡ Nothing → ⊥
   pub acknowledgement : p .kind ≡ 24 → s .device .owed ≡ true
   -- 28: the row of its endpoint has the type that it wants; "18, 19 (every mask bit)" bulk
-  pub type : (ty : ℕ) → wants from (p .kind) (inwardOf p) ≡ some ty → stateAt (s .device .rows) (endpointNamed p) .«endpoint_type» ≡ ty
-  pub types : among (18 ∷ 19 ∷ []) (p .kind) ≡ true → (r : ℕ) → r < length (s .device .rows .rows) → hasBit (field "mask" p) r ≡ true → getD (s .device .rows .rows) r (closedRow 0) .«endpoint_type» ≡ bulk
+  pub type : (ty : ℕ) → wants from (p .kind) (inwardOf p) ≡ some ty → stateAt (s .device .rows) (endpointNamed p) .ty ≡ ty
+  pub types : among (18 ∷ 19 ∷ []) (p .kind) ≡ true → (r : ℕ) → r < length (s .device .rows .rows) → hasBit (field "mask" p) r ≡ true → getD (s .device .rows .rows) r (closedRow 0) .ty ≡ bulk
   -- 29: "guest kinds 100 to 103 while a kind 6 or 9 waits"
   pub settled : isGuest from ≡ true → 100 ≤ p .kind → p .kind ≤ 103 → (i : ℕ) → i < length (s .requests .places) → placeAt (s .requests) i .live ≡ true → oneOf 6 9 (placeAt (s .requests) i .request .kind) ≡ false
   -- 30: "kind 102, host 103 IN and 104 on a closed stream"

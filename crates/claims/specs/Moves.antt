@@ -104,11 +104,11 @@ streamAfter s p r =
     -- "2 .. returns to the start", "3 .. closes all streams"
     cond (among (2 ∷ 3 ∷ []) (p .kind)) false
     -- "5 .. closes streams whose row changes type"
-    (cond (eqb (p .kind) 5) (rowAt s r .streaming && eqb (rowAt s r .«endpoint_type») (tableType p r))
+    (cond (eqb (p .kind) 5) (rowAt s r .streaming && eqb (rowAt s r .ty) (tableType p r))
     -- "a passed start opens; .. only where the row's type is that kind's"
-    (cond (among (12 ∷ 15 ∷ 25 ∷ []) (p .kind) && names p r && eqb (rowAt s r .«endpoint_type») (streamType (p .kind))) true
+    (cond (among (12 ∷ 15 ∷ 25 ∷ []) (p .kind) && names p r && eqb (rowAt s r .ty) (streamType (p .kind))) true
     -- "a status opens if it answers a start with 0 and otherwise closes; only where the row's type is that kind's"
-    (cond (among (14 ∷ 17 ∷ 27 ∷ []) (p .kind) && names p r && eqb (rowAt s r .«endpoint_type») (streamType (p .kind))) (eqb (field "status" p) 0 && eqb (answeredKind (s .requests) p) (startOf (p .kind)))
+    (cond (among (14 ∷ 17 ∷ 27 ∷ []) (p .kind) && names p r && eqb (rowAt s r .ty) (streamType (p .kind))) (eqb (field "status" p) 0 && eqb (answeredKind (s .requests) p) (startOf (p .kind)))
     -- "8 with status 0 to a 6 .. closes all streams"
     (cond (eqb (p .kind) 8 && eqb (field "status" p) 0 && eqb (answeredKind (s .requests) p) 6) false
     -- "11 with status 0 to a 9 does so for rows other than 0 and 16 of that interface"
@@ -127,7 +127,7 @@ pub record Moved (s : Session) (from : Side) (p : Content) (next : Session) : Ty
   -- "with bit 3 an ack is owed. 24 clears it"
   pub owed : next .device .owed ≡ cond (eqb (p .kind) 2) (isShared s 3) (cond (eqb (p .kind) 24) false (s .device .owed))
   -- "5 replaces the rows", "2 .. returns to the start"
-  pub types : (r : ℕ) → r < 32 → rowAt next r .«endpoint_type» ≡ cond (eqb (p .kind) 5) (tableType p r) (cond (eqb (p .kind) 2) (startType r) (rowAt s r .«endpoint_type»))
+  pub types : (r : ℕ) → r < 32 → rowAt next r .ty ≡ cond (eqb (p .kind) 5) (tableType p r) (cond (eqb (p .kind) 2) (startType r) (rowAt s r .ty))
   pub interfaces : (r : ℕ) → r < 32 → rowAt next r .interface ≡ cond (eqb (p .kind) 5) (tableInterface p r) (cond (eqb (p .kind) 2) 0 (rowAt s r .interface))
   pub streams : (r : ℕ) → r < 32 → rowAt next r .streaming ≡ streamAfter s p r
   -- 2 and 3 free "every place"; but for these, what is neither a request nor a reply leaves the requests (for those two see `request-keeps` and
@@ -143,7 +143,7 @@ pub record Moved (s : Session) (from : Side) (p : Content) (next : Session) : Ty
 abbrev streamedRow : Rows → ℕ → Endpoint → ℕ → Bool → RowState
 streamedRow d r x k b =
     let w : RowState = getD (d .rows) r (closedRow 0) in
-    withStream (cond (isRow (rowOf x) r && eqb (w .«endpoint_type») k) b (w .streaming)) w
+    withStream (cond (isRow (rowOf x) r && eqb (w .ty) k) b (w .streaming)) w
 
 module _ (d : Rows) (r : ℕ) (h : r < length (d .rows)) where
   abbrev row : RowState
@@ -162,15 +162,15 @@ module _ (d : Rows) (r : ℕ) (h : r < length (d .rows)) where
   stream-at x k b = at (rowOf x)
     where
       streamed : ℕ → Rows
-      streamed n = cond (eqb (getD (d .rows) n (closedRow 0) .«endpoint_type») k) (record { rows = set (d .rows) n (withStream b (getD (d .rows) n (closedRow 0))) }) d
+      streamed n = cond (eqb (getD (d .rows) n (closedRow 0) .ty) k) (record { rows = set (d .rows) n (withStream b (getD (d .rows) n (closedRow 0))) }) d
 
-      here : getD (streamed r .rows) r (closedRow 0) ≡ withStream (cond (eqb (row .«endpoint_type») k) b (row .streaming)) row
-      here = cases (eqb (row .«endpoint_type») k) (λ t. rw t (getD-set-same (d .rows) r (withStream b row) (closedRow 0) h)) (λ t. rw t)
+      here : getD (streamed r .rows) r (closedRow 0) ≡ withStream (cond (eqb (row .ty) k) b (row .streaming)) row
+      here = cases (eqb (row .ty) k) (λ t. rw t (getD-set-same (d .rows) r (withStream b row) (closedRow 0) h)) (λ t. rw t)
 
       elsewhere : (n : ℕ) → (r ≡ n → ⊥) → getD (streamed n .rows) r (closedRow 0) ≡ row
-      elsewhere n u = cases (eqb (getD (d .rows) n (closedRow 0) .«endpoint_type») k) (λ t. rw t (getD-set-other (d .rows) n r _ (closedRow 0) u)) (λ t. rw t)
+      elsewhere n u = cases (eqb (getD (d .rows) n (closedRow 0) .ty) k) (λ t. rw t (getD-set-other (d .rows) n r _ (closedRow 0) u)) (λ t. rw t)
 
-      at : (o : RowOf) → getD (streamIn d o k b .rows) r (closedRow 0) ≡ withStream (cond (isRow o r && eqb (row .«endpoint_type») k) b (row .streaming)) row
+      at : (o : RowOf) → getD (streamIn d o k b .rows) r (closedRow 0) ≡ withStream (cond (isRow o r && eqb (row .ty) k) b (row .streaming)) row
       at (At q) =
           cases (eqb (q .0) r)
           (λ t. rw t (ap (λ (n : ℕ). getD (streamed n .rows) r (closedRow 0)) (eqb-true (q .0) r t) ∙ here))
@@ -191,7 +191,7 @@ start-at r h =
     either false true = refl
     either false false = refl
 
-announced-at : (fs : List Field) (vs : List Value) (r : ℕ) → r < 32 → getD (announcedIn fs vs .rows) r (closedRow 0) ≡ record { «endpoint_type» = element "type" fs vs r; interface = element "interface" fs vs r; streaming = false }
+announced-at : (fs : List Field) (vs : List Value) (r : ℕ) → r < 32 → getD (announcedIn fs vs .rows) r (closedRow 0) ≡ record { ty = element "type" fs vs r; interface = element "interface" fs vs r; streaming = false }
 announced-at fs vs r h =
     each-at (announcedRow (column "type" fs vs) (column "interface" fs vs)) (startRows .rows) 0 r (closedRow 0) (rw start-length h)
     ∙ ap (λ (i : ℕ). announcedRow (column "type" fs vs) (column "interface" fs vs) i (closedRow 0)) (zero-add r)
@@ -321,7 +321,7 @@ headsBy s from p =
 abbrev rowBy : Session → Content → ℕ → RowState
 rowBy s p r =
     record {
-      «endpoint_type» = cond (eqb (p .kind) 5) (tableType p r) (cond (eqb (p .kind) 2) (startType r) (rowAt s r .«endpoint_type»));
+      ty = cond (eqb (p .kind) 5) (tableType p r) (cond (eqb (p .kind) 2) (startType r) (rowAt s r .ty));
       interface = cond (eqb (p .kind) 5) (tableInterface p r) (cond (eqb (p .kind) 2) 0 (rowAt s r .interface));
       streaming = streamAfter s p r;
     }
@@ -413,7 +413,7 @@ moves s from p w z n =
       present = λ i. m .0 i .present;
       introduction = (λ i. m .0 i .introduction) ∙ introduction-is (eqb (p .kind) 2) (eqb (p .kind) 5) (eqb (p .kind) 4) (s .device .present) (s .device .introduction);
       owed = λ i. m .0 i .owed;
-      types = λ r h i. m .1 r h i .«endpoint_type»;
+      types = λ r h i. m .1 r h i .ty;
       interfaces = λ r h i. m .1 r h i .interface;
       streams = λ r h i. m .1 r h i .streaming;
       requests = λ a b.

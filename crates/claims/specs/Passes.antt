@@ -253,23 +253,23 @@ module _ (s : Session) (from : Side) (p : Content) (a : factsOf (eventOf from p)
   pub types-are : wrongType (d .rows) e ≡ mistypedBy (d .rows) (typedBy from p)
   types-are = typed-is (d .rows) (traitsOf (e .class) .typed) (e .typed) ∙ (λ i. mistypedBy (d .rows) (a i .typed))
 
-  type-to : wrongType (d .rows) e ≡ false → (k : ℕ) → wants from (p .kind) (inwardOf p) ≡ some k → stateAt (d .rows) (endpointNamed p) .«endpoint_type» ≡ k
+  type-to : wrongType (d .rows) e ≡ false → (k : ℕ) → wants from (p .kind) (inwardOf p) ≡ some k → stateAt (d .rows) (endpointNamed p) .ty ≡ k
   type-to h k w = cases (among (18 ∷ 19 ∷ []) (p .kind)) masked plain
     where
-      masked : among (18 ∷ 19 ∷ []) (p .kind) ≡ true → stateAt (d .rows) (endpointNamed p) .«endpoint_type» ≡ k
+      masked : among (18 ∷ 19 ∷ []) (p .kind) ≡ true → stateAt (d .rows) (endpointNamed p) .ty ≡ k
       masked m = absurd (Option·none-ne-some k (sym (mask-wants from (p .kind) (inwardOf p) m) ∙ w))
 
-      plain : among (18 ∷ 19 ∷ []) (p .kind) ≡ false → stateAt (d .rows) (endpointNamed p) .«endpoint_type» ≡ k
-      plain m = eqb-true (stateAt (d .rows) (endpointNamed p) .«endpoint_type») k (not-false _ (sym (rw (m, w)) ∙ sym types-are ∙ h))
+      plain : among (18 ∷ 19 ∷ []) (p .kind) ≡ false → stateAt (d .rows) (endpointNamed p) .ty ≡ k
+      plain m = eqb-true (stateAt (d .rows) (endpointNamed p) .ty) k (not-false _ (sym (rw (m, w)) ∙ sym types-are ∙ h))
 
-  types-to : wrongType (d .rows) e ≡ false → among (18 ∷ 19 ∷ []) (p .kind) ≡ true → (r : ℕ) → r < length (d .rows .rows) → hasBit (field "mask" p) r ≡ true → getD (d .rows .rows) r (closedRow 0) .«endpoint_type» ≡ bulk
+  types-to : wrongType (d .rows) e ≡ false → among (18 ∷ 19 ∷ []) (p .kind) ≡ true → (r : ℕ) → r < length (d .rows .rows) → hasBit (field "mask" p) r ≡ true → getD (d .rows .rows) r (closedRow 0) .ty ≡ bulk
   types-to h m r l b =
       let none-such : maskMistyped (d .rows) (field "mask" p) bulk ≡ false = sym (rw m) ∙ sym types-are ∙ h in
       let here : mistyped (field "mask" p) bulk r (getD (d .rows .rows) r (closedRow 0)) ≡ false = ap (λ (n : ℕ). mistyped (field "mask" p) bulk n (getD (d .rows .rows) r (closedRow 0))) (sym (zero-add r)) ∙ any-absent (mistyped (field "mask" p) bulk) (d .rows .rows) 0 (closedRow 0) none-such r l in
       eqb-true _ bulk (not-false _ (fails (hasBit (field "mask" p) r) _ here b))
 
-  type-from : ((k : ℕ) → wants from (p .kind) (inwardOf p) ≡ some k → stateAt (d .rows) (endpointNamed p) .«endpoint_type» ≡ k)
-      → (among (18 ∷ 19 ∷ []) (p .kind) ≡ true → (r : ℕ) → r < length (d .rows .rows) → hasBit (field "mask" p) r ≡ true → getD (d .rows .rows) r (closedRow 0) .«endpoint_type» ≡ bulk)
+  type-from : ((k : ℕ) → wants from (p .kind) (inwardOf p) ≡ some k → stateAt (d .rows) (endpointNamed p) .ty ≡ k)
+      → (among (18 ∷ 19 ∷ []) (p .kind) ≡ true → (r : ℕ) → r < length (d .rows .rows) → hasBit (field "mask" p) r ≡ true → getD (d .rows .rows) r (closedRow 0) .ty ≡ bulk)
       → wrongType (d .rows) e ≡ false
   type-from f g = types-are ∙ cases (among (18 ∷ 19 ∷ []) (p .kind)) masked (λ m. rw m (wanted (wants from (p .kind) (inwardOf p)) refl))
     where

@@ -61,8 +61,8 @@ touched-is d n e = (within (rowOf e), inside (rowOf e))
         ∙ and-whole (not (eqb (r .0) 0 || eqb (r .0) 16)) (eqb (rowAt d (r .0) .interface) n) (true-not (eqb (r .0) 0 || eqb (r .0) 16) c) (eq-eqb (rowAt d (r .0) .interface) n (s .interface))
 
 -- 43: "row 0 or 16 not control" does not hold
-pub control-is : (d : Rows) → (controlRows d ≡ true) ↔ ((rowAt d 0 .«endpoint_type» ≡ 0) × (rowAt d 16 .«endpoint_type» ≡ 0))
+pub control-is : (d : Rows) → (controlRows d ≡ true) ↔ ((rowAt d 0 .ty ≡ 0) × (rowAt d 16 .ty ≡ 0))
 control-is d = (
-  (λ t. let p = and-parts (eqb (rowAt d 0 .«endpoint_type») 0) (eqb (rowAt d 16 .«endpoint_type») 0) t in (eqb-true (rowAt d 0 .«endpoint_type») 0 (p .0), eqb-true (rowAt d 16 .«endpoint_type») 0 (p .1))),
-  (λ c. and-whole (eqb (rowAt d 0 .«endpoint_type») 0) (eqb (rowAt d 16 .«endpoint_type») 0) (eq-eqb (rowAt d 0 .«endpoint_type») 0 (c .0)) (eq-eqb (rowAt d 16 .«endpoint_type») 0 (c .1))),
+  (λ t. let p = and-parts (eqb (rowAt d 0 .ty) 0) (eqb (rowAt d 16 .ty) 0) t in (eqb-true (rowAt d 0 .ty) 0 (p .0), eqb-true (rowAt d 16 .ty) 0 (p .1))),
+  (λ c. and-whole (eqb (rowAt d 0 .ty) 0) (eqb (rowAt d 16 .ty) 0) (eq-eqb (rowAt d 0 .ty) 0 (c .0)) (eq-eqb (rowAt d 16 .ty) 0 (c .1))),
 )

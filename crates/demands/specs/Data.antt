@@ -202,7 +202,7 @@ pub record RowsLent (caps : ℕ) (h : Header) (bytes : List ℕ) : Type 0 where
   pub endpoint-row : (d : Part) (packets streams : Bool) (i : ℕ)
       → endpointRow (dataIn (Passed h (EndpointTable d packets streams)) bytes) packets streams i
       ≡ record {
-        «endpoint_type» = element "type" (layout 5) (saidFields caps h bytes (EndpointTable d packets streams)) i;
+        ty = element "type" (layout 5) (saidFields caps h bytes (EndpointTable d packets streams)) i;
         interval = element "interval" (layout 5) (saidFields caps h bytes (EndpointTable d packets streams)) i;
         interface = element "interface" (layout 5) (saidFields caps h bytes (EndpointTable d packets streams)) i;
         maxpacket = optional16Of packets (element "max packet" (layout 5) (saidFields caps h bytes (EndpointTable d packets streams)) i);

@@ -51,7 +51,7 @@ sessionOf word places =
       host = Passed word;
       stopped = false;
       held = record { guest = 0; host = 0 };
-      device = record { present = true; introduction = Two; owed = false; rows = record { rows = set (startRows .rows) 2 (record { «endpoint_type» = bulk; interface = 0; streaming = false }) } };
+      device = record { present = true; introduction = Two; owed = false; rows = record { rows = set (startRows .rows) 2 (record { ty = bulk; interface = 0; streaming = false }) } };
       requests = record { places = places };
     }
 

@@ -31,12 +31,12 @@ module _ (d : Rows) (e : Endpoint) (k : ℕ) (b : Bool) (o : RowOf) (ends : o �
   unfolding streamTo
   at-row z found = ap (λ (y : RowOf). streamIn d y k b) (sym found ∙ ends)
 
-  pub stream-set : (r : Row) (w : RowState) → o ≡ At r → eqb (getD (d .rows) (r .0) (closedRow 0) .«endpoint_type») k ≡ true → w ≡ withStream b (getD (d .rows) (r .0) (closedRow 0)) → record { rows = set (d .rows) (r .0) w } ≡ streamTo d e k b
+  pub stream-set : (r : Row) (w : RowState) → o ≡ At r → eqb (getD (d .rows) (r .0) (closedRow 0) .ty) k ≡ true → w ≡ withStream b (getD (d .rows) (r .0) (closedRow 0)) → record { rows = set (d .rows) (r .0) w } ≡ streamTo d e k b
   stream-set r w found t v =
       let here : record { rows = set (d .rows) (r .0) w } ≡ streamIn d (At r) k b = rw (t, v) in
       here ∙ at-row (At r) found
 
-  pub stream-left : (r : Row) → o ≡ At r → eqb (getD (d .rows) (r .0) (closedRow 0) .«endpoint_type») k ≡ false → d ≡ streamTo d e k b
+  pub stream-left : (r : Row) → o ≡ At r → eqb (getD (d .rows) (r .0) (closedRow 0) .ty) k ≡ false → d ≡ streamTo d e k b
   stream-left r found f =
       let here : d ≡ streamIn d (At r) k b = rw f in
       here ∙ at-row (At r) found

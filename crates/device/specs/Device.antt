@@ -39,7 +39,7 @@ invalid = 255
 
 -- a row of a type, of interface 0, with its stream closed
 abbrev pub closedRow : ℕ → RowState
-closedRow ty = record { «endpoint_type» = ty; interface = 0; streaming = false }
+closedRow ty = record { ty = ty; interface = 0; streaming = false }
 
 -- "Start: .. all rows invalid but 0 and 16 (control), interfaces 0, streams closed"
 unfoldable pub startRows : Rows
@@ -58,7 +58,7 @@ stateAt d e = rowIn (d .rows) (rowOf e)
 
 -- a row of the mask has another type
 abbrev pub mistyped : ℕ → ℕ → ℕ → RowState → Bool
-mistyped mask ty i r = hasBit mask i && not (eqb (r .«endpoint_type») ty)
+mistyped mask ty i r = hasBit mask i && not (eqb (r .ty) ty)
 
 abbrev pub maskMistyped : Rows → ℕ → ℕ → Bool
 maskMistyped d mask ty = anyAt (mistyped mask ty) 0 (d .rows)
@@ -67,7 +67,7 @@ maskMistyped d mask ty = anyAt (mistyped mask ty) 0 (d .rows)
 
 -- a row and the one that takes its place
 abbrev pub replacedBy : RowState → RowState → RowState
-replacedBy new old = record { «endpoint_type» = new .«endpoint_type»; interface = new .interface; streaming = old .streaming && eqb (old .«endpoint_type») (new .«endpoint_type») }
+replacedBy new old = record { ty = new .ty; interface = new .interface; streaming = old .streaming && eqb (old .ty) (new .ty) }
 
 unfoldable pub replaced : Rows → Rows → Rows
 replaced new d = record { rows = eachAt (λ (i : ℕ) (r : RowState). replacedBy (getD (new .rows) i (closedRow 0)) r) 0 (d .rows) }
@@ -75,12 +75,12 @@ replaced new d = record { rows = eachAt (λ (i : ℕ) (r : RowState). replacedBy
 -- ---- streams
 
 abbrev pub withStream : Bool → RowState → RowState
-withStream b r = record { «endpoint_type» = r .«endpoint_type»; interface = r .interface; streaming = b }
+withStream b r = record { ty = r .ty; interface = r .interface; streaming = b }
 
 -- the stream of a row opened or closed, "only where the row's type is that kind's"
 abbrev pub streamIn : Rows → RowOf → ℕ → Bool → Rows
 streamIn d (At r) ty b =
-    cond (eqb (getD (d .rows) (r .0) (closedRow 0) .«endpoint_type») ty)
+    cond (eqb (getD (d .rows) (r .0) (closedRow 0) .ty) ty)
     (record { rows = set (d .rows) (r .0) (withStream b (getD (d .rows) (r .0) (closedRow 0))) })
     d
 streamIn d Malformed ty b = d
@@ -115,7 +115,7 @@ touched d s e = touchedIn d s (rowOf e)
 -- ---- 43: "row 0 or 16 not control"
 
 abbrev pub controlRows : Rows → Bool
-controlRows d = eqb (getD (d .rows) 0 (closedRow 0) .«endpoint_type») control && eqb (getD (d .rows) 16 (closedRow 0) .«endpoint_type») control
+controlRows d = eqb (getD (d .rows) 0 (closedRow 0) .ty) control && eqb (getD (d .rows) 16 (closedRow 0) .ty) control
 
 -- ---- the device
 

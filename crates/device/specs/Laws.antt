@@ -24,7 +24,7 @@ use Rattle.device.specs.declared.Scope.the-variants.{Nowhere}
 use Rattle.device.specs.Device.{control, closedRow, startRows, replaced, withStream, streamIn, streamTo, touches, closedBy, closed, controlRows}
 
 -- rows of the same types are alike in their control rows
-same-control : (a b : Rows) → getD (a .rows) 0 (closedRow 0) .«endpoint_type» ≡ getD (b .rows) 0 (closedRow 0) .«endpoint_type» → getD (a .rows) 16 (closedRow 0) .«endpoint_type» ≡ getD (b .rows) 16 (closedRow 0) .«endpoint_type» → controlRows a ≡ controlRows b
+same-control : (a b : Rows) → getD (a .rows) 0 (closedRow 0) .ty ≡ getD (b .rows) 0 (closedRow 0) .ty → getD (a .rows) 16 (closedRow 0) .ty ≡ getD (b .rows) 16 (closedRow 0) .ty → controlRows a ≡ controlRows b
 same-control a b out inward = λ j. eqb (out j) control && eqb (inward j) control
 
 -- ---- the start
@@ -35,10 +35,10 @@ start-control = refl
 
 -- ---- closing the streams of a scope
 
-closed-by-type : (s : Scope) (i : ℕ) (r : RowState) → closedBy s i r .«endpoint_type» ≡ r .«endpoint_type»
+closed-by-type : (s : Scope) (i : ℕ) (r : RowState) → closedBy s i r .ty ≡ r .ty
 closed-by-type s i r = either (touches s i r)
   where
-    either : (b : Bool) → cond b (withStream false r) r .«endpoint_type» ≡ r .«endpoint_type»
+    either : (b : Bool) → cond b (withStream false r) r .ty ≡ r .ty
     either true = refl
     either false = refl
 
@@ -46,9 +46,9 @@ pub closed-length : (d : Rows) (s : Scope) → length (closed d s .rows) ≡ len
 unfolding closed
 closed-length d s = each-length (closedBy s) (d .rows) 0
 
-closed-type : (d : Rows) (s : Scope) (k : ℕ) → getD (closed d s .rows) k (closedRow 0) .«endpoint_type» ≡ getD (d .rows) k (closedRow 0) .«endpoint_type»
+closed-type : (d : Rows) (s : Scope) (k : ℕ) → getD (closed d s .rows) k (closedRow 0) .ty ≡ getD (d .rows) k (closedRow 0) .ty
 unfolding closed
-closed-type d s k = each-keeps (closedBy s) (λ (r : RowState). r .«endpoint_type») (closed-by-type s) (d .rows) 0 k (closedRow 0)
+closed-type d s k = each-keeps (closedBy s) (λ (r : RowState). r .ty) (closed-by-type s) (d .rows) 0 k (closedRow 0)
 
 pub closed-control : (d : Rows) (s : Scope) → controlRows (closed d s) ≡ controlRows d
 closed-control d s = same-control (closed d s) d (closed-type d s 0) (closed-type d s 16)
@@ -65,14 +65,14 @@ stream-keeps {X} g d e k b h = at (rowOf e)
     either false i = refl
 
     at : (o : RowOf) → g (streamIn d o k b) ≡ g d
-    at (At r) = either (eqb (getD (d .rows) (r .0) (closedRow 0) .«endpoint_type») k) (r .0)
+    at (At r) = either (eqb (getD (d .rows) (r .0) (closedRow 0) .ty) k) (r .0)
     at Malformed = refl
 
 pub stream-length : (d : Rows) (e : Endpoint) (k : ℕ) (b : Bool) → length (streamTo d e k b .rows) ≡ length (d .rows)
 stream-length d e k b = stream-keeps (λ (a : Rows). length (a .rows)) d e k b (λ (i : ℕ). length-set (d .rows) i _)
 
-stream-type : (d : Rows) (e : Endpoint) (k : ℕ) (b : Bool) (n : ℕ) → getD (streamTo d e k b .rows) n (closedRow 0) .«endpoint_type» ≡ getD (d .rows) n (closedRow 0) .«endpoint_type»
-stream-type d e k b n = stream-keeps (λ (a : Rows). getD (a .rows) n (closedRow 0) .«endpoint_type») d e k b (λ (i : ℕ). set-keeps (λ (r : RowState). r .«endpoint_type») (d .rows) i n (closedRow 0) _ refl)
+stream-type : (d : Rows) (e : Endpoint) (k : ℕ) (b : Bool) (n : ℕ) → getD (streamTo d e k b .rows) n (closedRow 0) .ty ≡ getD (d .rows) n (closedRow 0) .ty
+stream-type d e k b n = stream-keeps (λ (a : Rows). getD (a .rows) n (closedRow 0) .ty) d e k b (λ (i : ℕ). set-keeps (λ (r : RowState). r .ty) (d .rows) i n (closedRow 0) _ refl)
 
 pub stream-control : (d : Rows) (e : Endpoint) (k : ℕ) (b : Bool) → controlRows (streamTo d e k b) ≡ controlRows d
 stream-control d e k b = same-control (streamTo d e k b) d (stream-type d e k b 0) (stream-type d e k b 16)
@@ -83,15 +83,15 @@ pub replaced-length : (new d : Rows) → length (replaced new d .rows) ≡ lengt
 unfolding replaced
 replaced-length new d = each-length _ (d .rows) 0
 
-replaced-type : (new d : Rows) (k : ℕ) → k < length (d .rows) → getD (replaced new d .rows) k (closedRow 0) .«endpoint_type» ≡ getD (new .rows) k (closedRow 0) .«endpoint_type»
+replaced-type : (new d : Rows) (k : ℕ) → k < length (d .rows) → getD (replaced new d .rows) k (closedRow 0) .ty ≡ getD (new .rows) k (closedRow 0) .ty
 unfolding replaced
-replaced-type new d k h = ap (λ (r : RowState). r .«endpoint_type») (each-at _ (d .rows) 0 k (closedRow 0) h) ∙ ap (λ (i : ℕ). getD (new .rows) i (closedRow 0) .«endpoint_type») (zero-add k)
+replaced-type new d k h = ap (λ (r : RowState). r .ty) (each-at _ (d .rows) 0 k (closedRow 0) h) ∙ ap (λ (i : ℕ). getD (new .rows) i (closedRow 0) .ty) (zero-add k)
 
 -- a row past the end reads as control
-replaced-row : (new d : Rows) (k : ℕ) → eqb (getD (new .rows) k (closedRow 0) .«endpoint_type») control ≡ true → eqb (getD (replaced new d .rows) k (closedRow 0) .«endpoint_type») control ≡ true
+replaced-row : (new d : Rows) (k : ℕ) → eqb (getD (new .rows) k (closedRow 0) .ty) control ≡ true → eqb (getD (replaced new d .rows) k (closedRow 0) .ty) control ≡ true
 replaced-row new d k c = elim (decLt k (length (d .rows))) [
   | yes h ↦ rw (replaced-type new d k h) c
-  | no h ↦ ap (λ (r : RowState). eqb (r .«endpoint_type») control) (List·getD-eq-default (replaced new d .rows) (closedRow 0) {n = k} (omega (arith, replaced-length new d)))
+  | no h ↦ ap (λ (r : RowState). eqb (r .ty) control) (List·getD-eq-default (replaced new d .rows) (closedRow 0) {n = k} (omega (arith, replaced-length new d)))
 ]
 
 pub replaced-control : (new d : Rows) → controlRows new ≡ true → controlRows (replaced new d) ≡ true

@@ -13,7 +13,8 @@ use endpoint::row_of;
 
 // A row: the type and the interface of its endpoint as the endpoint table gave them, and whether its stream is open.
 pub struct RowState {
-    pub endpoint_type: u8,
+    // the endpoint's type
+    pub ty: u8,
     pub interface: u8,
     pub streaming: bool,
 }
@@ -48,7 +49,7 @@ fn closed_row(ty: u8) -> RowState
     ensures { λ r. ⌜ r ≡ closedRow ty ⌝ }
 {
     RowState {
-        endpoint_type: ty,
+        ty,
         interface: 0,
         streaming: false,
     }
@@ -95,7 +96,7 @@ pub fn state_at(rows: Rows, e: Endpoint) -> RowState
 fn is_mistyped(mask: u32, ty: u8, row: Row, r: RowState) -> bool
     ensures { λ b. ⌜ b ≡ mistyped mask ty (row .0) r ⌝ }
 {
-    in_mask(mask, row) & (r.endpoint_type != ty)
+    in_mask(mask, row) & (r.ty != ty)
 }
 
 // A row of the mask has another type than this.
@@ -118,9 +119,9 @@ fn replaced_by(new: RowState, old: RowState) -> RowState
     ensures { λ r. ⌜ r ≡ replacedBy new old ⌝ }
 {
     RowState {
-        endpoint_type: new.endpoint_type,
+        ty: new.ty,
         interface: new.interface,
-        streaming: old.streaming & (old.endpoint_type == new.endpoint_type),
+        streaming: old.streaming & (old.ty == new.ty),
     }
 }
 
@@ -143,7 +144,7 @@ fn with_stream(r: RowState, streaming: bool) -> RowState
     ensures { λ s. ⌜ s ≡ withStream streaming r ⌝ }
 {
     RowState {
-        endpoint_type: r.endpoint_type,
+        ty: r.ty,
         interface: r.interface,
         streaming,
     }
@@ -159,7 +160,7 @@ pub fn set_stream(rows: Rows, e: Endpoint, ty: u8, streaming: bool) -> Rows
         RowOf::At(r) => {
             let i = r.0 as usize;
             let old = out.rows[i];
-            if old.endpoint_type == ty {
+            if old.ty == ty {
                 out.rows[i] = with_stream(old, streaming);
             }
             out
@@ -228,5 +229,5 @@ pub fn has_control_rows(rows: Rows) -> bool
 {
     let out = rows.rows[0];
     let inward = rows.rows[16];
-    (out.endpoint_type == 0) & (inward.endpoint_type == 0)
+    (out.ty == 0) & (inward.ty == 0)
 }

@@ -62,7 +62,7 @@ wordOf p = cond (eqb (p .kind) 0) (le 4 (p .rest) 0) 0
 
 -- the rows that an endpoint table announces: type and interface of each
 abbrev pub announcedRow : List ℕ → List ℕ → ℕ → RowState → RowState
-announcedRow types interfaces i r = record { «endpoint_type» = getD types i 0; interface = getD interfaces i 0; streaming = false }
+announcedRow types interfaces i r = record { ty = getD types i 0; interface = getD interfaces i 0; streaming = false }
 
 abbrev pub announcedIn : List Field → List Value → Rows
 announcedIn fs vs = record { rows = eachAt (announcedRow (column "type" fs vs) (column "interface" fs vs)) 0 (startRows .rows) }

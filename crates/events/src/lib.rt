@@ -243,7 +243,7 @@ fn announced(body: &[u8], part: Part, packets: bool, streams: bool) -> Rows
     while i < 32 {
         let r = endpoint_row(body, part, packets, streams, Row(i as u8));
         out.rows[i] = RowState {
-            endpoint_type: r.endpoint_type,
+            ty: r.ty,
             interface: r.interface,
             streaming: false,
         };

@@ -92,6 +92,6 @@ module _ (i : ℕ) {n : ℕ} where
   interface-cell e h = h ∙ ap (λ (r : InterfaceRow). getD (r .number ∷ r .class ∷ r .subclass ∷ r .protocol ∷ 0 ∷ 0 ∷ 0 ∷ []) i 0) e
 
   pub endpoint-cell : {r q : EndpointRow} {v w : ℕ} → r ≡ q → v ≡ value16 (r .maxpacket) → w ≡ value32Of (r .maxstreams)
-      → n ≡ getD (r .«endpoint_type» ∷ r .interval ∷ r .interface ∷ v ∷ w ∷ 0 ∷ 0 ∷ []) i 0
-      → n ≡ getD (q .«endpoint_type» ∷ q .interval ∷ q .interface ∷ value16 (q .maxpacket) ∷ value32Of (q .maxstreams) ∷ 0 ∷ 0 ∷ []) i 0
+      → n ≡ getD (r .ty ∷ r .interval ∷ r .interface ∷ v ∷ w ∷ 0 ∷ 0 ∷ []) i 0
+      → n ≡ getD (q .ty ∷ q .interval ∷ q .interface ∷ value16 (q .maxpacket) ∷ value32Of (q .maxstreams) ∷ 0 ∷ 0 ∷ []) i 0
   endpoint-cell e f g h = cc

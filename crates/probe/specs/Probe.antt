@@ -81,4 +81,4 @@ interfaceCell rows row column =
 abbrev pub endpointCell : List ℕ → ℕ → ℕ → ℕ → ℕ → ℕ
 endpointCell rows packets streams row column =
     let r = endpointRow rows (not (eqb packets 0)) (not (eqb streams 0)) row in
-    getD (r .«endpoint_type» ∷ r .interval ∷ r .interface ∷ value16 (r .maxpacket) ∷ value32Of (r .maxstreams) ∷ 0 ∷ 0 ∷ []) column 0
+    getD (r .ty ∷ r .interval ∷ r .interface ∷ value16 (r .maxpacket) ∷ value32Of (r .maxstreams) ∷ 0 ∷ 0 ∷ []) column 0

@@ -481,7 +481,7 @@ pub extern "C" fn probe_endpoint(
     let maxstreams = r.maxstreams;
     pick(
         column,
-        r.endpoint_type as u64,
+        r.ty as u64,
         r.interval as u64,
         r.interface as u64,
         value(maxpacket),

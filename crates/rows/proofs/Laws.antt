@@ -86,7 +86,7 @@ interface-cells rows i = λ j.
 pub endpoint-cells : (rows : List ℕ) (packets streams : Bool) (i : ℕ)
     → _≡_ {A = EndpointRow}
     (record {
-      «endpoint_type» = cellAt rows 0 1 i;
+      ty = cellAt rows 0 1 i;
       interval = cellAt rows 32 1 i;
       interface = cellAt rows 64 1 i;
       maxpacket = optional16Of packets (cellAt rows 96 2 i);
@@ -96,7 +96,7 @@ pub endpoint-cells : (rows : List ℕ) (packets streams : Bool) (i : ℕ)
 unfolding kinds layout endpointRow
 endpoint-cells rows true streams i = λ j.
     record {
-      «endpoint_type» = inColumn 1 rows i;
+      ty = inColumn 1 rows i;
       interval = inColumn 1 (drop 32 rows) i;
       interface = inColumn 1 (two rows j) i;
       maxpacket = Present (inColumn 2 (three rows j) i);
@@ -108,7 +108,7 @@ endpoint-cells rows true streams i = λ j.
     behind false = refl
 endpoint-cells rows false streams i = λ j.
     record {
-      «endpoint_type» = inColumn 1 rows i;
+      ty = inColumn 1 rows i;
       interval = inColumn 1 (drop 32 rows) i;
       interface = inColumn 1 (two rows j) i;
       maxpacket = Absent;

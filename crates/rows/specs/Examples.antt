@@ -64,9 +64,9 @@ interfaces = (refl, refl, refl)
 -- ---- "5: 32 each of type, interval, interface, then max packet u16, max streams u32."
 
 -- row 17 of a table of n bytes; a table with max streams has max packet too
-pub endpoints : (endpointRow (run 96 0) false false 17 ≡ record { «endpoint_type» = 17; interval = 49; interface = 81; maxpacket = Absent; maxstreams = Absent32 })
-    × (endpointRow (run 160 0) true false 17 ≡ record { «endpoint_type» = 17; interval = 49; interface = 81; maxpacket = Present (130 + 256 * 131); maxstreams = Absent32 })
-    × (endpointRow (run 288 0) true true 17 ≡ record { «endpoint_type» = 17; interval = 49; interface = 81; maxpacket = Present (130 + 256 * 131); maxstreams = Present32 (228 + 256 * 229 + 65536 * 230 + 16777216 * 231) })
-    × (endpointRow (run 288 0) true true 32 ≡ record { «endpoint_type» = 0; interval = 0; interface = 0; maxpacket = Present 0; maxstreams = Present32 0 })
+pub endpoints : (endpointRow (run 96 0) false false 17 ≡ record { ty = 17; interval = 49; interface = 81; maxpacket = Absent; maxstreams = Absent32 })
+    × (endpointRow (run 160 0) true false 17 ≡ record { ty = 17; interval = 49; interface = 81; maxpacket = Present (130 + 256 * 131); maxstreams = Absent32 })
+    × (endpointRow (run 288 0) true true 17 ≡ record { ty = 17; interval = 49; interface = 81; maxpacket = Present (130 + 256 * 131); maxstreams = Present32 (228 + 256 * 229 + 65536 * 230 + 16777216 * 231) })
+    × (endpointRow (run 288 0) true true 32 ≡ record { ty = 0; interval = 0; interface = 0; maxpacket = Present 0; maxstreams = Present32 0 })
 unfolding endpointRow layout kinds
 endpoints = (refl, refl, refl, refl)

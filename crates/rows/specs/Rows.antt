@@ -57,7 +57,7 @@ endpointRow rows packets streams i =
     let fs : List Field = layout 5 in
     let vs : List Value = split (columnsOf packets streams) fs rows in
     record {
-      «endpoint_type» = element "type" fs vs i;
+      ty = element "type" fs vs i;
       interval = element "interval" fs vs i;
       interface = element "interface" fs vs i;
       maxpacket = optional16Of packets (element "max packet" fs vs i);

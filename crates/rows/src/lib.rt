@@ -30,7 +30,8 @@ pub struct InterfaceRow {
 
 // One of the 32 rows of an endpoint table.
 pub struct EndpointRow {
-    pub endpoint_type: u8,
+    // the endpoint's type
+    pub ty: u8,
     pub interval: u8,
     pub interface: u8,
     pub maxpacket: Optional16,
@@ -89,7 +90,7 @@ pub fn endpoint_row(body: &[u8], rows: Part, packets: bool, streams: bool, row: 
     let i = row.0 as usize;
     let at = choose(packets, 160, 96);
     EndpointRow {
-        endpoint_type: cell8(s, 0, i),
+        ty: cell8(s, 0, i),
         interval: cell8(s, 32, i),
         interface: cell8(s, 64, i),
         maxpacket: given16(packets, cell(s, 96, 2, i) as u16),

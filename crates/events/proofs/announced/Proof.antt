@@ -61,7 +61,7 @@ unfolding endpointRow
 loop-again c =
     let e = c .endpoint-row .ensures in
     let i : c .before .before .loop .i < 32 = search needs in
-    (search needs, upto-step _ _ (startRows .rows) _ (closedRow 0) _ (omega (arith, start-length)) (c .before .before .loop .inv .1) (λ j. record { «endpoint_type» = e j .«endpoint_type»; interface = e j .interface; streaming = false }))
+    (search needs, upto-step _ _ (startRows .rows) _ (closedRow 0) _ (omega (arith, start-length)) (c .before .before .loop .inv .1) (λ j. record { ty = e j .ty; interface = e j .interface; streaming = false }))
 
 returns : tie.Need-returns Inv-loop μ-loop
 returns c =
