@@ -139,7 +139,7 @@ id-fits l p k f w b = go (eqb (p .kind) 0) refl
         rw n (id-widths (λ m. 0 < 256 ^ m) (omega arith) (omega arith) l (p .kind))
     go false s = leb-false (256 ^ idWidth l (p .kind)) (p .id) (simp s at w)
 
--- a number of 0 says that no check holds (`none-holds`), and each that does not hold gives a part of this
+-- what a number of 0 says (`clean`) gives each part of this
 pub accepted : (l : Link) (p : Content) → Accepted l p → Encodable l p
 unfolding packetNumber layout bad
 accepted l p a =
