@@ -26,7 +26,7 @@ use Rattle.header.specs.Link.{offered, passed, own, sharedSet, idWidth, opposit
 use Rattle.header.specs.Header.{kindOf, lengthOf, headerSize, headerNumber}
 use Rattle.kinds.specs.Content.{Content}
 use Rattle.kinds.specs.Number.{wireNumber}
-use Rattle.kinds.specs.Codec.{bodyLength, packetNumber, encode, writeNumber, decode, readNumber}
+use Rattle.kinds.specs.Codec.{decode, readNumber}
 use Rattle.device.specs.Device.{controlRows}
 use Rattle.requests.specs.Requests.{idsDiffer}
 use Rattle.events.specs.declared.Event.{Event}
@@ -45,8 +45,7 @@ use Rattle.verdict.specs.Verdict.{stoppedNow, refusedAs, verdictOf}
 use Rattle.gate.specs.Offer.{heldOf, heldAs, heldBytes, isWaiting, barred, byCut, offerOf}
 use Rattle.gate.specs.Write.{shut, writeBy}
 use Rattle.gate.specs.Laws.{FitCount, Fit, fit-is, is-fit, completed-length, more-few, Ready, ready}
-use Rattle.demands.specs.Numbers.{header-numbers, wire-numbers}
-use Rattle.demands.specs.Demand1.{next-number}
+use Rattle.demands.specs.Numbers.{write-numbers}
 use Rattle.demands.specs.Kept.{held-as, same-held, whole-number}
 use Rattle.demands.specs.Cuts.{of-side, Both, Call, answerTo, next, final, heldBy, ends, verdict-ends}
 use Rattle.demands.specs.Calls.{Unfinished, header-ends}
@@ -388,29 +387,17 @@ never-refused hold room cs c = answer-fit (final (begun hold) cs) c (left-kept (
 
 -- ---- nor does a writer call
 
+-- 43 is not among the numbers behind it, and it does not hold
 fit-written : (d : Side) (s : Session) (p : Content) (room : ℕ) → unfit s ≡ false → writeBy d s p room ≡ 43 → ⊥
-unfolding writeBy shut writeNumber packetNumber
+unfolding shut
 fit-written d s p room e =
-    next-number P (shut d s (eqb (p .kind) 0)) (writeNumber l p room) (rw e (opened (s .stopped) (isWaiting l && not (eqb (p .kind) 0))))
-    (next-number P (packetNumber l p) _ (next-number P (headerNumber l (p .kind) (bodyLength l p)) (wireNumber l p)
-    (header-numbers P ((λ z. omega arith), ((λ z. omega arith), ((λ z. omega arith), ((λ z. omega arith), tt)))) l (p .kind) (bodyLength l p))
-    (wire-numbers P ((λ z. omega arith), ((λ z. omega arith), ((λ z. omega arith), ((λ z. omega arith), ((λ z. omega arith), ((λ z. omega arith), ((λ z. omega arith), tt))))))) l p))
-    (spaced (ltb room (length (encode l p)))))
+    write-numbers (λ m. m ≡ 43 → ⊥) ((λ z. omega arith), ((λ z. omega arith), ((λ z. omega arith), ((λ z. omega arith), tt)))) ((λ z. omega arith), ((λ z. omega arith), ((λ z. omega arith), ((λ z. omega arith), ((λ z. omega arith), ((λ z. omega arith), ((λ z. omega arith), tt))))))) (λ z. omega arith) d s p room
+    (rw e (other (s .stopped) (isWaiting (linkOf d s) && not (eqb (p .kind) 0))))
   where
-    l : Link
-    l = linkOf d s
-
-    P : ℕ → Type 0
-    P m = m ≡ 43 → ⊥
-
-    opened : (a b : Bool) → P (cond a 3 (cond b 2 0))
-    opened true b z = omega arith
-    opened false true z = omega arith
-    opened false false z = omega arith
-
-    spaced : (b : Bool) → P (cond b 40 0)
-    spaced true z = omega arith
-    spaced false z = omega arith
+    other : (a b : Bool) → _≡_ {A = ℕ} (cond a 3 (cond b 2 0)) 43 → ⊥
+    other true b z = omega arith
+    other false true z = omega arith
+    other false false z = omega arith
 
 pub never-refused-write : (hold : Side → List ℕ) → ((d : Side) → 32784 ≤ length (hold d)) → (cs : List Call) (d : Side) (p : Content) (room : ℕ)
     → writeBy d (final (begun hold) cs .session) p room ≡ 43 → ⊥

@@ -34,7 +34,7 @@ use Rattle.verdict.specs.Verdict.{stoppedNow, refusedAs, verdictOf}
 use Rattle.gate.specs.Offer.{heldOf, heldAs, heldBytes, isWaiting, barred, Outcome, byCut, offerOf, Whole}
 use Rattle.gate.specs.Write.{shut, writeBy, output, outputSize}
 use Rattle.gate.specs.Laws.{completed-length, whole-here, header-here, Ready, ready, held-few}
-use Rattle.demands.specs.Numbers.{header-numbers, wire-numbers, barred-numbers}
+use Rattle.demands.specs.Numbers.{header-numbers, barred-numbers, write-numbers}
 use Rattle.demands.specs.Kept.{verdict-numbers}
 use Rattle.demands.specs.Demand2.{writer-exactly}
 
@@ -151,32 +151,9 @@ shut-number from s hello = go (unfit s) (s .stopped) (isWaiting (linkOf from s) 
     go false false true = refl
     go false false false = refl
 
--- what holds of both numbers holds of the first that is not 0
-pub next-number : (P : ℕ → Type 0) (n m : ℕ) → P n → P m → P (orNext n m)
-next-number P n m p q = go (eqb n 0)
-  where
-    go : (b : Bool) → P (cond b m n)
-    go true = q
-    go false = p
-
--- 43, 3 or 2, then the header's number, then that of the wire checks, then 40: each is of the list
 write-number : (from : Side) (s : Session) (p : Content) (room : ℕ) → among writeNumbers (writeBy from s p room) ≡ true
-unfolding writeBy writeNumber packetNumber
 write-number from s p room =
-    let l : Link = linkOf from s in
-    let header : ℕ = headerNumber l (p .kind) (bodyLength l p) in
-    let full : Bool = ltb room (length (encode l p)) in
-    next-number L (shut from s (eqb (p .kind) 0)) (orNext (orNext header (wireNumber l p)) (cond full 40 0)) (shut-number from s (eqb (p .kind) 0))
-    (next-number L (orNext header (wireNumber l p)) (cond full 40 0)
-    (next-number L header (wireNumber l p) (header-numbers L (refl, (refl, (refl, (refl, tt)))) l (p .kind) (bodyLength l p)) (wire-numbers L (refl, (refl, (refl, (refl, (refl, (refl, (refl, tt))))))) l p))
-    (room-number full))
-  where
-    L : ℕ → Type 0
-    L m = among writeNumbers m ≡ true
-
-    room-number : (b : Bool) → among writeNumbers (cond b 40 0) ≡ true
-    room-number true = refl
-    room-number false = refl
+    write-numbers (λ m. among writeNumbers m ≡ true) (refl, (refl, (refl, (refl, tt)))) (refl, (refl, (refl, (refl, (refl, (refl, (refl, tt))))))) refl from s p room (shut-number from s (eqb (p .kind) 0))
 
 module _ (from : Side) (s : Session) (p : Content) (out : List ℕ) where
   abbrev packet : List ℕ

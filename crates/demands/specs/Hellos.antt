@@ -34,12 +34,12 @@ use Rattle.demands.specs.Begun.{begun, stateOf, begun-starts}
 abbrev buffers : Side → List ℕ
 buffers d = replicate 32784 0
 
--- a hello with these words, of bytes, and the two hellos
-abbrev hello : Side → List ℕ → Call
-hello from words = record { from = from; piece = bytesOf 4 0 ++ (bytesOf 4 (64 + length words) ++ (bytesOf 4 0 ++ (replicate 64 0 ++ words))) }
+-- a hello whose words have these bytes
+abbrev pub helloBytes : List ℕ → List ℕ
+helloBytes words = bytesOf 4 0 ++ (bytesOf 4 (64 + length words) ++ (bytesOf 4 0 ++ (replicate 64 0 ++ words)))
 
 abbrev hellos : List ℕ → List ℕ → List Call
-hellos guest host = hello Guest guest ∷ hello Host host ∷ []
+hellos guest host = record { from = Guest; piece = helloBytes guest } ∷ record { from = Host; piece = helloBytes host } ∷ []
 
 -- every bit that is ever asked for; and an end that knows no capabilities
 abbrev newest : List ℕ

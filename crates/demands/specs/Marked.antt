@@ -40,6 +40,7 @@ use Rattle.verdict.specs.Verdict.{verdictOf}
 use Rattle.gate.specs.Offer.{barred, offerOf}
 use Rattle.gate.specs.Write.{shut, output, outputSize}
 use Rattle.demands.specs.Cuts.{Both, Call, answerTo, next}
+use Rattle.demands.specs.Hellos.{helloBytes}
 
 -- ---- what the examples are run on
 
@@ -108,7 +109,7 @@ headerSaying n = bytesOf 4 101 ++ (bytesOf 4 n ++ bytesOf 4 9)
 
 -- a hello with one word
 abbrev helloWith : ℕ → List ℕ
-helloWith word = bytesOf 4 0 ++ (bytesOf 4 68 ++ (bytesOf 4 0 ++ (replicate 64 0 ++ bytesOf 4 word)))
+helloWith word = helloBytes (bytesOf 4 word)
 
 -- get-config and its status, by id
 abbrev asks : ℕ → Call

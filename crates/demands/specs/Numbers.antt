@@ -1,5 +1,5 @@
--- Which numbers there are: those of a header, of the wire checks, of the session checks, and of a call that is barred (`header-numbers`,
--- `wire-numbers`, `session-numbers`, `barred-numbers`): what holds of each number of a list holds of the one that is given.
+-- Which numbers there are: those of a header, of the wire checks, of the session checks, of a call that is barred, and of a writer call
+-- (`header-numbers`, `wire-numbers`, `session-numbers`, `barred-numbers`, `write-numbers`): what holds of each number of a list holds of the one that is given.
 -- A definition is a nest of tests, and for each outcome of its tests the number is one of the list. The session's is the first of a list of
 -- checks, by induction over that.
 -- Assumes nothing.
@@ -16,6 +16,7 @@ use Rattle.header.specs.Link.{passed, own, sharedSet}
 use Rattle.header.specs.Header.{headerNumber}
 use Rattle.kinds.specs.Table.{Kind, kinds}
 use Rattle.kinds.specs.Content.{Content, shared, find}
+use Rattle.kinds.specs.Codec.{bodyLength, encode, orNext, packetNumber, writeNumber}
 use Rattle.kinds.specs.Number.{sends, surplus, wideId, sizeOk, bad, isNone, streamsAlone, inOrder, kindNumber, byKind, wireNumber}
 use Rattle.events.specs.declared.Event.{Event}
 use Rattle.checks.specs.Checks.{Check, firstOf, checks, matchOf, numberFor, numberOf}
@@ -23,6 +24,7 @@ use Rattle.session.specs.declared.Session.{Session}
 use Rattle.session.specs.Session.{linkOf, unfit}
 use Rattle.session.specs.Step.{judged}
 use Rattle.gate.specs.Offer.{isWaiting, heldWhole, barred}
+use Rattle.gate.specs.Write.{shut, writeBy}
 use Rattle.claims.specs.Steps.{number-is}
 
 -- what holds of each number of a list
@@ -92,3 +94,18 @@ module _ (P : ℕ → Type 0) where
       go false false true d = p .1 .1 .0
       go false false false true = p .1 .0
       go false false false false = p .0
+
+  -- what holds of both numbers holds of the first that is not 0
+  next-number : (n m : ℕ) → P n → P m → P (orNext n m)
+  next-number n m p q = either (eqb n 0) m n q p
+
+  -- 43, 3 or 2 where one holds, then the header's number, then that of the wire checks, then 40
+  pub write-numbers : Each P (0 ∷ 10 ∷ 11 ∷ 12 ∷ []) → Each P (0 ∷ 13 ∷ 20 ∷ 21 ∷ 22 ∷ 23 ∷ 24 ∷ []) → P 40 → (from : Side) (s : Session) (p : Content) (room : ℕ)
+      → P (shut from s (eqb (p .kind) 0)) → P (writeBy from s p room)
+  unfolding writeBy writeNumber packetNumber
+  write-numbers h w full from s p room q =
+      let l : Link = linkOf from s in
+      next-number (shut from s (eqb (p .kind) 0)) (writeNumber l p room) q
+      (next-number (packetNumber l p) _
+      (next-number (headerNumber l (p .kind) (bodyLength l p)) (wireNumber l p) (header-numbers h l (p .kind) (bodyLength l p)) (wire-numbers w l p))
+      (either (ltb room (length (encode l p))) 40 0 full (h .0)))

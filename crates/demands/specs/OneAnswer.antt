@@ -4,14 +4,12 @@
 -- (`same-packet`).
 -- Assumes nothing.
 use Prim.Native.Nat.{ℕ}
-use mathlib.Core.Path.{_≡_, refl, sym, ap, _∙_}
+use mathlib.Core.Path.{_≡_, refl, ap}
 use mathlib.Core.List.{List}
-use mathlib.Core.Option.{Option, none, some, Option·none-ne-some, Option·some-ne-none, Option·some-injective}
+use mathlib.Core.Option.{Option·none-ne-some, Option·some-ne-none, Option·some-injective}
 use lib.ListN.{drop}
-use Rattle.header.specs.declared.Header.{Header}
 use Rattle.header.specs.declared.Link.{Link}
 use Rattle.header.specs.Link.{sharedSet}
-use Rattle.packet.specs.declared.Packet.{Packet}
 use Rattle.packet.specs.Same.{same-packet}
 use Rattle.decoder.specs.Reading.{PacketTold}
 use Rattle.verdict.specs.declared.Handed.{Handed}

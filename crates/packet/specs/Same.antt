@@ -8,14 +8,14 @@ use native.Mathlib.Omega.{arith}
 use mathlib.Core.Path.{_≡_, refl, sym, ap, _∙_}
 use mathlib.Core.Bool.{Bool, true, false, cond, _||_}
 use mathlib.Core.List.{List}
-use mathlib.Core.Option.{Option, none, some}
+use mathlib.Core.Option.{none, some}
 use lib.ListN.{getD}
 use lib.Dec.{eqb, ltb}
 use borrow.Author.Tests.{ltb-false}
 use Rattle.number.specs.Bits.{hasBit}
 use Rattle.endpoint.specs.declared.Endpoint.{Endpoint}
 use Rattle.kinds.specs.Table.{kinds}
-use Rattle.kinds.specs.Content.{Value, one, Content, firstNumber}
+use Rattle.kinds.specs.Content.{Value, one, firstNumber}
 use Rattle.kinds.specs.Codec.{layout}
 use Rattle.packet.specs.declared.Part.{Part}
 use Rattle.packet.specs.declared.Optional16.{Optional16}
