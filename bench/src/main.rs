@@ -1,8 +1,9 @@
 //! The proved gate beside a plain one and libusbredirparser, in one run on one machine.
 //!
-//! `bench [DIVISOR [INDEX]]`: with a divisor there is so much less traffic, with an index only that
-//! one, counted from 0. Prints a line for each traffic and judge: the best time of some rounds, GB/s, packets/s, and the time as a multiple of the plain gate's. The last line is `N passed, M failed`: the gate and the
-//! plain gate told the same of every call and left the same buffers.
+//! `bench [DIVISOR [INDEX]]`: with a divisor there is so much less traffic, with an index only that one, counted from 0. Prints a line
+//! for each traffic and judge: the best time of some rounds, GB/s, packets/s, and the time as a multiple of the plain gate's. The last
+//! line is `N passed, M failed`: the gate and the plain gate told the same of every call and left the same buffers, and
+//! libusbredirparser, where it takes part, handed out as many packets.
 
 mod judges;
 mod traffic;
