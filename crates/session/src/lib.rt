@@ -43,8 +43,8 @@ pub struct Held {
     pub host: usize,
 }
 
-// What belongs to the two ends and to the device stands apart from the requests that wait. These come first: they are most of the
-// record, and so a copy of them next to another is one.
+// What belongs to the two ends and to the device stands apart from the requests that wait. The requests are most of the record and come
+// first in it: of two copies in a row the compiler then makes one.
 pub struct Session {
     pub requests: Requests,
     pub guest: Hello,
