@@ -3,7 +3,7 @@
 use mathlib.Core.Path.{_≡_, refl, sym, ap}
 use mathlib.Core.Bool.{Bool, true, false, cond}
 use mathlib.Core.List.{List}
-use mathlib.Core.Option.{Option, none, some}
+use mathlib.Core.Option.{none, some, Option·some-injective}
 use Prim.Native.Nat.{ℕ}
 use native.Mathlib.Omega.{arith}
 use lib.ListN.{drop}
@@ -33,9 +33,6 @@ handed-none true b e =
     absurd (omega arith)
 handed-none false b e = refl
 
-same : {a b : PacketTold} → _≡_ {A = Option PacketTold} (some a) (some b) → a ≡ b
-same e = cc
-
 module _ {l : Link} {bytes : List ℕ} {r : Reading} (t : told l bytes r ≡ readOf l bytes) where
   pub refusing : {n : ℕ} → r ≡ Refused n → Refusing l bytes n
   unfolding readOf
@@ -48,5 +45,5 @@ module _ {l : Link} {bytes : List ℕ} {r : Reading} (t : told l bytes r ≡ rea
   passing e =
       let s = rw e at t in
       let z : readNumber l bytes ≡ 0 = sym (ap (λ (x : Told). x .number) s) in
-      let g = same (rw z at (ap (λ (x : Told). x .handed) s)) in
+      let g = Option·some-injective _ _ (rw z at (ap (λ (x : Told). x .handed) s)) in
       record { number = z; content = ap (λ (x : PacketTold). x .content) g; part = ap (λ (x : PacketTold). x .part) g }

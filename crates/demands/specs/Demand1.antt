@@ -11,15 +11,13 @@ use mathlib.Core.Bool.{Bool, true, false, cond, not, _&&_, true≢false}
 use mathlib.Core.List.{List, [], _∷_, _++_}
 use lib.ListN.{length, take, drop, length-append, length-drop}
 use lib.Seq.{length-sets, drop-at}
-use lib.Dec.{eqb, ltb}
+use lib.Dec.{eqb}
 use borrow.Author.Tests.{eqb-true, ne-eqb}
 use borrow.Table.Steps.{cases}
 use Rattle.header.specs.declared.Side.{Side}
-use Rattle.header.specs.declared.Link.{Link}
-use Rattle.header.specs.Header.{kindOf, lengthOf, headerNumber}
+use Rattle.header.specs.Header.{kindOf, lengthOf}
 use Rattle.kinds.specs.Content.{Content}
-use Rattle.kinds.specs.Number.{wireNumber}
-use Rattle.kinds.specs.Codec.{decode, encode, orNext, readNumber, bodyLength, packetNumber, writeNumber, written, writtenSize}
+use Rattle.kinds.specs.Codec.{decode, encode, readNumber, writeNumber, written, writtenSize}
 use Rattle.kinds.specs.RoundTrip.{both-zero}
 use Rattle.events.specs.Event.{eventOf}
 use Rattle.session.specs.declared.Session.{Session}

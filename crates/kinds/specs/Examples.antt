@@ -7,19 +7,18 @@ use mathlib.Core.Option.{none, some}
 use Prim.Native.Nat.{ℕ, _+_, _*_}
 use Prim.Native.String.{String}
 use lib.ListN.{replicate, set, length}
-use lib.Dec.{eqb, leb}
+use lib.Dec.{leb}
 use lib.Text.{eqt}
 use Rattle.header.specs.declared.Side.{Side}
 use Rattle.header.specs.declared.Side.the-variants.{Guest, Host}
 use Rattle.header.specs.declared.Hello.the-variants.{Awaited, Passed}
-use Rattle.header.specs.declared.Link.{Link}
 use Rattle.number.specs.Bits.{hasBit}
 use Rattle.header.specs.Link.{sharedSet, idWidth}
 use Rattle.kinds.specs.Table.{Bits, always, bit, bits, Field, Tail, nothing, words, string, payload, payload-onward, Kind, kinds, kindAt}
 use Rattle.kinds.specs.Content.{Value, one, Content, shared, size, packetOf}
 use Rattle.header.specs.Header.{headerSize, headerBytes, headerNumber}
 use Rattle.kinds.specs.Number.{dataLength, bad, kindNumber, wireNumber}
-use Rattle.kinds.specs.Codec.{layout, encode, packetNumber, writeNumber, written, writtenSize}
+use Rattle.kinds.specs.Codec.{layout, encode, packetNumber, writeNumber}
 
 -- ---- sizes
 
@@ -224,11 +223,6 @@ pub writer : (writing Guest 0 12 (packetOf 7 7 [] []) ≡ 0)
     × (writing Guest 0 0 (bulk 0 none (replicate 32761 0)) ≡ 10)
 unfolding sharedSet idWidth headerSize headerBytes headerNumber layout encode packetNumber writeNumber wireNumber kindNumber bad kinds
 writer = (refl, refl, refl, refl, refl, refl, refl, refl, refl, refl, refl, refl)
-
--- a refused write leaves the output as it was and counts no byte
-pub untouched : (l : Link) (p : Content) (out : List ℕ) → eqb (writeNumber l p (length out)) 0 ≡ false → (written l p out ≡ out) × (writtenSize l p (length out) ≡ 0)
-unfolding written writtenSize
-untouched l p out e = (rw e, rw e)
 
 -- "The bulk count is low + 65,536 times high"
 pub count : (low high : ℕ) → dataLength (layout 101) (one 2 ∷ one 0 ∷ one low ∷ one 0 ∷ one high ∷ []) ≡ low + 65536 * high

@@ -80,12 +80,6 @@ module _ {A : Type 0} (f : ℕ → A → A) where
   upto-all i (suc n) [] h = refl
   upto-all i (suc n) (x ∷ xs) h = ap (λ (t : List A). f i x ∷ t) (upto-all (suc i) n xs (omega arith))
 
-  upto-long : (i n : ℕ) (l : List A) → length (upTo f i n l) ≡ length l
-  unfolding upTo
-  upto-long i zero l = refl
-  upto-long i (suc n) [] = refl
-  upto-long i (suc n) (x ∷ xs) = ap suc (upto-long (suc i) n xs)
-
   -- the element at n is not changed yet
   pub upto-at : (i n : ℕ) (l : List A) (d : A) → getD (upTo f i n l) n d ≡ getD l n d
   unfolding upTo
