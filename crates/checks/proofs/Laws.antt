@@ -1,45 +1,196 @@
--- What a match and the number come to in each case, in the values that the code has: a packet that is no reply has no match (`no-reply`), a reply
--- has that of the place which the search found (`reply-found`) or none (`reply-alone`); a check that holds gives its number, any other leaves it
--- to those behind it (`held`, `missed`).
--- Each computes from `matchOf`, or from a `cond`, once the equations are put in that the code's calls and branches give.
+-- What a ruling comes to in each case, in the values that the code has: a request (`asked-mistyped` and those after it), data on a stream
+-- (`streamed-mistyped` and those after it), a reply by the place that has its id (`reply-pending`, `reply-other`, `reply-nowhere`) and by the slot
+-- there (`target-other`, `target-same`), and the case itself (`by-case`), whose ruling waits for no slot (`ruled-final`).
+-- Each computes once the equations are put in that the code's calls and branches give.
 -- Assumes nothing.
 use Prim.Native.Nat.{ℕ}
-use mathlib.Core.Path.{_≡_, ap, _∙_}
-use mathlib.Core.Bool.{Bool, true, false, cond}
-use Rattle.requests.specs.declared.Place.{Place}
+use mathlib.Core.Path.{_≡_, refl, sym, ap, _∙_}
+use mathlib.Core.Bool.{Bool, true, false, cond, not, _&&_, _||_}
+use mathlib.Core.Option.{Option, none, some}
+use lib.ListN.{getD}
+use lib.Dec.{eqb, ltb}
+use borrow.Author.Tests.{eq-eqb, ne-eqb}
+use Rattle.number.specs.Logic.{failing}
+use Rattle.endpoint.specs.declared.Endpoint.{Endpoint}
+use Rattle.device.specs.declared.Head.{Head}
+use Rattle.device.specs.declared.Rows.{Rows}
+use Rattle.device.specs.declared.Scope.{Scope}
+use Rattle.device.specs.Device.{stateAt}
+use Rattle.requests.specs.declared.Request.{Request}
 use Rattle.requests.specs.declared.Requests.{Requests}
+use Rattle.requests.specs.declared.Slot.{Slot}
 use Rattle.requests.specs.declared.Found.{Found}
 use Rattle.requests.specs.declared.Found.the-variants.{At, Nowhere}
-use Rattle.requests.specs.declared.Query.the-variants.{Answered}
-use Rattle.requests.specs.Requests.{lowest, foundAt, placeAt}
-use Rattle.events.specs.declared.Event.{Event}
-use Rattle.checks.specs.declared.Traits.{Traits}
-use Rattle.checks.specs.declared.Match.the-variants.{Unmatched, Matched}
-use Rattle.checks.specs.Checks.{traitsOf, matchIn, matchOf}
+use Rattle.requests.specs.Requests.{isSome, freeSlot, Free, Id, Settling, lowest, foundAt}
+use Rattle.events.specs.declared.Typed.{Typed}
+use Rattle.events.specs.declared.Reply.{Reply}
+use Rattle.events.specs.declared.Case.{Case}
+use Rattle.events.specs.declared.Case.the-variants as cases
+use Rattle.checks.specs.declared.Change.{Change}
+use Rattle.checks.specs.declared.Change.the-variants.{Nothing, Answer}
+use Rattle.checks.specs.declared.Expected.{Expected}
+use Rattle.checks.specs.declared.Ruling.{Ruling}
+use Rattle.checks.specs.declared.Ruling.the-variants.{Refused, Passed}
+use Rattle.checks.specs.Checks.{isBegun, isDone, mistypedBy}
+use Rattle.checks.specs.Ruled.{taking, askedBy, unmatched, alone, scopeTo, expected, settledBy, settled, answeredIn, streamedBy, ruled}
 
--- ---- the request that a packet answers
+-- a choice, where its test is known
+module _ {A : Type 0} (b : Bool) (x y : A) where
+  pub held : b ≡ true → x ≡ cond b x y
+  held e = rw e
 
-module _ (t : Requests) (e : Event) (a : Traits) (asks : a ≡ traitsOf (e .class)) where
-  pub no-reply : a .reply ≡ false → Unmatched ≡ matchOf t e
-  unfolding matchOf
-  no-reply is = rw (← asks, is)
+  pub missed : b ≡ false → y ≡ cond b x y
+  missed e = rw e
 
-  module _ (is : a .reply ≡ true) (f : Found) (ends : foundAt f ≡ lowest t (Answered (e .request) (e .answers))) where
-    -- the match is that of what was found
-    at-place : (z : Found) → f ≡ z → matchIn t (foundAt z) ≡ matchOf t e
-    unfolding matchOf
-    at-place z found = rw (← asks, is, ← ends, found)
+-- ---- 29
 
-    pub reply-found : (i : ℕ) (p : Place) → f ≡ At i → p ≡ placeAt t i → Matched i (p .request) ≡ matchOf t e
-    reply-found i p found here = ap (λ (q : Place). Matched i (q .request)) here ∙ at-place (At i) found
+module _ (t : Requests) (transfer : Bool) where
+  -- no set configuration or set alt waits, or the packet is no transfer
+  pub none-waits : (s : Bool) → s ≡ isSome (lowest t Settling) → s ≡ false → (transfer && isSome (lowest t Settling)) ≡ false
+  none-waits s e h = failing transfer (isSome (lowest t Settling)) (λ x. sym e ∙ h)
 
-    pub reply-alone : f ≡ Nowhere → Unmatched ≡ matchOf t e
-    reply-alone found = at-place Nowhere found
+  pub no-transfer : transfer ≡ false → (transfer && isSome (lowest t Settling)) ≡ false
+  no-transfer h = rw h
 
--- ---- the first check that holds: this one or a later one
+-- ---- a request
 
-pub held : (b : Bool) (x y : ℕ) → b ≡ true → cond b x y ≡ x
-held b x y e = rw e
+module _ (d : Rows) (t : Requests) (q : Request) (typed : Typed) (starts transfer : Bool) (m : Bool) (ism : m ≡ mistypedBy d typed) where
+  abbrev Asked : Ruling → Type 0
+  Asked r = r ≡ askedBy d t q typed starts transfer
 
-pub missed : (b : Bool) (x y : ℕ) → b ≡ false → cond b x y ≡ y
-missed b x y e = rw e
+  pub asked-mistyped : m ≡ true → Asked (Refused 28)
+  asked-mistyped h = rw (← ism, h)
+
+  pub asked-settling : m ≡ false → transfer ≡ true → (s : Bool) → s ≡ isSome (lowest t Settling) → s ≡ true → Asked (Refused 29)
+  asked-settling h x s e k = rw (← ism, h, x, ← e, k)
+
+  module _ (h : m ≡ false) (w : (transfer && isSome (lowest t Settling)) ≡ false) (f : Found) (found : foundAt f ≡ lowest t (Id (q .id))) where
+    pub asked-twice : (z : Found) → f ≡ z → isSome (foundAt z) ≡ true → Asked (Refused 31)
+    asked-twice z e k = rw (← ism, h, w, ← found, e, k)
+
+    -- the lowest free place
+    pub asked-place : f ≡ Nowhere → (g z : Found) → foundAt g ≡ lowest t Free → g ≡ z → Asked (taking q typed starts (foundAt z))
+    asked-place e g z free at = rw (← ism, h, w, ← found, e, ← free, at)
+
+-- ---- data on a stream
+
+module _ (d : Rows) (t : Requests) (e : Endpoint) (ty : ℕ) (transfer : Bool) (k : ℕ) (isk : k ≡ stateAt d e .ty) where
+  abbrev Streamed : Ruling → Type 0
+  Streamed r = r ≡ streamedBy d t e ty transfer
+
+  pub streamed-mistyped : (k ≡ ty → ⊥) → Streamed (Refused 28)
+  streamed-mistyped h = rw (← isk, ne-eqb k ty h)
+
+  module _ (h : k ≡ ty) where
+    pub streamed-settling : transfer ≡ true → (s : Bool) → s ≡ isSome (lowest t Settling) → s ≡ true → Streamed (Refused 29)
+    streamed-settling x s c b = rw (← isk, eq-eqb k ty h, x, ← c, b)
+
+    pub streamed-by : (transfer && isSome (lowest t Settling)) ≡ false → (b : Bool) → b ≡ stateAt d e .streaming → Streamed (cond b (Passed Nothing) (Refused 30))
+    streamed-by w b c = rw (← isk, eq-eqb k ty h, w, ← c)
+
+-- ---- a reply, by its slot
+
+-- the target is compared and is another
+other-target : (a b : Bool) → (not a || b) ≡ not (a && not b)
+other-target true true = refl
+other-target true false = refl
+other-target false b = refl
+
+module _ (i : ℕ) (x : Expected) (typed : Typed) (opens : Bool) (scope : Scope) (slot : Slot) where
+  abbrev Settles : Ruling → Type 0
+  Settles r = r ≡ settledBy i x typed opens scope slot
+
+  abbrev other : Bool
+  other = x .targeted && not (eqb (slot .target) (x .target))
+
+  pub target-other : other ≡ true → Settles (unmatched typed (x .unasked))
+  target-other h = rw (other-target (x .targeted) (eqb (slot .target) (x .target)), h)
+
+  pub target-same : other ≡ false → Settles (cond (ltb (slot .length) (x .length)) (Refused 34) (Passed (Answer i typed opens scope)))
+  target-same h = rw (other-target (x .targeted) (eqb (slot .target) (x .target)), h)
+
+-- ---- rulings that wait for no slot
+
+data Final : Ruling → Type 0 where
+  refused : {n : ℕ} → Final (Refused n)
+  passed : {c : Change} → Final (Passed c)
+
+settled-final : {r : Ruling} (t : Requests) → Final r → settled r t ≡ r
+settled-final t refused = refl
+settled-final t passed = refl
+
+either : {x y : Ruling} (b : Bool) → Final x → Final y → Final (cond b x y)
+either true e f = e
+either false e f = f
+
+unmatched-final : (typed : Typed) (unasked : Bool) → Final (unmatched typed unasked)
+unmatched-final typed unasked = either unasked passed refused
+
+taking-final : (q : Request) (typed : Typed) (starts : Bool) (o : Option ℕ) → Final (taking q typed starts o)
+taking-final q typed starts none = refused
+taking-final q typed starts (some i) = passed
+
+answered-final : (t : Requests) (r : Reply) (typed : Typed) (unasked : Bool) (o : Option ℕ) → Final (answeredIn t r typed unasked o)
+answered-final t r typed unasked none = unmatched-final typed (alone r unasked)
+answered-final t r typed unasked (some i) =
+    let k = getD (t .kinds) i 0 in
+    let slot = getD (t .slots) i freeSlot in
+    let none-final = unmatched-final typed (alone r unasked) in
+    either (eqb k (r .answers .first) || eqb k (r .answers .second))
+    (either (not (r .answers .targeted) || eqb (slot .target) (r .told .target)) (either (ltb (slot .length) (r .told .length)) refused passed) none-final)
+    none-final
+
+-- ---- a reply, by the place that has its id
+
+module _ (t : Requests) (r : Reply) (typed : Typed) (unasked : Bool) (f : Found) (found : foundAt f ≡ lowest t (Id (r .told .id))) where
+  abbrev answered : Ruling
+  answered = answeredIn t r typed unasked (lowest t (Id (r .told .id)))
+
+  at-place : (z : Found) → f ≡ z → answeredIn t r typed unasked (foundAt z) ≡ answered
+  at-place z e = rw (← found, e)
+
+  -- no request is answered
+  none-answered : (u : Ruling) → u ≡ unmatched typed (alone r unasked) → settled u t ≡ unmatched typed (alone r unasked)
+  none-answered u e = rw e (settled-final t (unmatched-final typed (alone r unasked)))
+
+  pub reply-nowhere : f ≡ Nowhere → (u : Ruling) → u ≡ unmatched typed (alone r unasked) → settled u t ≡ answered
+  reply-nowhere e u c = none-answered u c ∙ at-place Nowhere e
+
+  module _ (i : ℕ) (e : f ≡ At i) (k : ℕ) (isk : k ≡ getD (t .kinds) i 0) where
+    -- its kind is none that the reply answers
+    pub reply-other : (eqb k (r .answers .first) || eqb k (r .answers .second)) ≡ false → (u : Ruling) → u ≡ unmatched typed (alone r unasked) → settled u t ≡ answered
+    reply-other h u c = none-answered u c ∙ rw (← isk, h) at (at-place (At i) e)
+
+    pub reply-pending : (eqb k (r .answers .first) || eqb k (r .answers .second)) ≡ true → (s : Scope) → s ≡ scopeTo r k
+        → settledBy i (expected r unasked) typed (eqb (r .status) 0 && eqb k (r .answers .first)) s (getD (t .slots) i freeSlot) ≡ answered
+    reply-pending h s c = rw c (rw (← isk, h) at (at-place (At i) e))
+
+-- ---- each case
+
+module _ (h : Head) (d : Rows) (t : Requests) where
+  ruled-final : (c : Case) → Final (ruled h d t c)
+  unfolding ruled
+  ruled-final (cases.Hello word) = passed
+  ruled-final cases.Connect = either (h .owed) refused (either (h .present || not (isDone (h .introduction))) refused passed)
+  ruled-final cases.Interfaces = either (h .owed) refused (either (not (h .present) && not (isBegun (h .introduction))) refused passed)
+  ruled-final cases.Endpoints = either (h .owed) refused passed
+  ruled-final cases.Disconnect = either (h .present) passed refused
+  ruled-final cases.Reset = either (h .present) passed refused
+  ruled-final cases.Ack = either (h .owed) passed refused
+  ruled-final cases.Cancel = either (h .present) passed refused
+  ruled-final cases.Filter = passed
+  ruled-final (cases.Asks q typed starts transfer) =
+      either (h .present)
+      (either (mistypedBy d typed) refused
+      (either (transfer && isSome (lowest t Settling)) refused
+      (either (isSome (lowest t (Id (q .id)))) refused (taking-final q typed starts (lowest t Free)))))
+      refused
+  ruled-final (cases.Answers r typed unasked) = either (h .present) (answered-final t r typed unasked (lowest t (Id (r .told .id)))) refused
+  ruled-final (cases.Streams e ty transfer) =
+      either (h .present)
+      (either (eqb (stateAt d e .ty) ty) (either (transfer && isSome (lowest t Settling)) refused (either (stateAt d e .streaming) passed refused)) refused)
+      refused
+
+  -- a ruling is that of the packet's case
+  pub by-case : (c x : Case) (r : Ruling) → c ≡ x → r ≡ ruled h d t x → settled r t ≡ ruled h d t c
+  by-case c x r k e = ap (λ (u : Ruling). settled u t) e ∙ settled-final t (ruled-final x) ∙ sym (ap (ruled h d t) k)

@@ -4,26 +4,37 @@ use Prim.Native.Nat.{ℕ}
 use mathlib.Core.Bool.{Bool, true, false, cond, not, _&&_, _||_}
 use mathlib.Core.List.{List, [], _∷_}
 use mathlib.Core.Option.{Option, none, some}
-use lib.Dec.{eqb, leb, ltb}
-use Rattle.kinds.specs.Number.{isGuest}
+use lib.Dec.{eqb, ltb}
 use Rattle.device.specs.declared.Introduction.{Introduction}
 use Rattle.device.specs.declared.Introduction.the-variants.{Nothing, One, Two}
-use Rattle.device.specs.declared.Device.{Device}
+use Rattle.device.specs.declared.Head.{Head}
 use Rattle.device.specs.declared.Rows.{Rows}
 use Rattle.device.specs.Device.{stateAt, maskMistyped}
+use Rattle.requests.specs.declared.Request.{Request}
 use Rattle.requests.specs.declared.Requests.{Requests}
-use Rattle.requests.specs.declared.Query.the-variants.{Free, Id, Settling, Answered}
-use Rattle.requests.specs.Requests.{lowest, placeAt}
-use Rattle.events.specs.declared.Class.{Class}
-use Rattle.events.specs.declared.Class.the-variants.{Hello, Connect, Interfaces, Endpoints, Disconnect, Reset, Ack, Cancel, Filter, StartRequest, PlainRequest, StreamStatus, PlainReply, StreamData}
+use Rattle.requests.specs.Requests.{isSome, Free, Id, Settling, Answered, lowest, placeAt}
+use Rattle.events.specs.Meaning.{Class, Hello, Connect, Interfaces, Endpoints, Disconnect, Reset, Ack, Cancel, Filter, StartRequest, PlainRequest, StreamStatus, PlainReply, StreamData}
 use Rattle.events.specs.declared.Typed.{Typed}
 use Rattle.events.specs.declared.Typed.the-variants.{Untyped, OfEndpoint, OfMask}
-use Rattle.events.specs.declared.Event.{Event}
-use Rattle.checks.specs.declared.Traits.{Traits}
-use Rattle.checks.specs.declared.Match.{Match}
-use Rattle.checks.specs.declared.Match.the-variants.{Unmatched, Matched}
+use Rattle.events.specs.Event.{Event, isTransfer}
 
 -- ---- what the checks ask of a class
+
+pub record Traits : Type 0 where
+  -- it needs a device
+  pub device : Bool
+  -- it introduces a device
+  pub introduces : Bool
+  -- its endpoint's row, or every row of its mask, has to have the type that its kind wants
+  pub typed : Bool
+  -- the stream of its row has to be open
+  pub streamed : Bool
+  -- it takes a place
+  pub request : Bool
+  -- it answers a request
+  pub reply : Bool
+  -- it may come without one
+  pub unsolicited : Bool
 
 abbrev bare : Traits
 bare = record { device = false; introduces = false; typed = false; streamed = false; request = false; reply = false; unsolicited = false }
@@ -62,19 +73,15 @@ traitsOf StreamStatus = reporting
 traitsOf PlainReply = replying
 traitsOf StreamData = streaming
 
-abbrev pub isSome : Option ℕ → Bool
-isSome none = false
-isSome (some i) = true
-
 -- ---- 25: "All kinds but 0, 1, 4, 5, 22, 23, 24 get 25 without a device."
 
-abbrev pub noDevice : Device → Event → Bool
-noDevice d e = traitsOf (e .class) .device && not (d .present)
+abbrev pub noDevice : Head → Event → Bool
+noDevice h e = traitsOf (e .class) .device && not (h .present)
 
 -- ---- 27: "Kinds 1, 4, 5 get 27 while an ack is owed, 26 untested."
 
-abbrev pub ackOwed : Device → Event → Bool
-ackOwed d e = traitsOf (e .class) .introduces && d .owed
+abbrev pub ackOwed : Head → Event → Bool
+ackOwed h e = traitsOf (e .class) .introduces && h .owed
 
 -- ---- 26: "With no device, 5 sets the introduction to one; 4 needs one or two and sets two; 1 needs two and makes the device present;
 -- else 26. With a device, 1 gets 26; 4 and 5 pass." "24 clears it; when none is owed, 26."
@@ -89,21 +96,21 @@ isDone Nothing = false
 isDone One = false
 isDone Two = true
 
-abbrev pub outOfOrder : Device → Class → Bool
-outOfOrder d Hello = false
-outOfOrder d Connect = d .present || not (isDone (d .introduction))
-outOfOrder d Interfaces = not (d .present) && not (isBegun (d .introduction))
-outOfOrder d Endpoints = false
-outOfOrder d Disconnect = false
-outOfOrder d Reset = false
-outOfOrder d Ack = not (d .owed)
-outOfOrder d Cancel = false
-outOfOrder d Filter = false
-outOfOrder d StartRequest = false
-outOfOrder d PlainRequest = false
-outOfOrder d StreamStatus = false
-outOfOrder d PlainReply = false
-outOfOrder d StreamData = false
+abbrev pub outOfOrder : Head → Class → Bool
+outOfOrder h Hello = false
+outOfOrder h Connect = h .present || not (isDone (h .introduction))
+outOfOrder h Interfaces = not (h .present) && not (isBegun (h .introduction))
+outOfOrder h Endpoints = false
+outOfOrder h Disconnect = false
+outOfOrder h Reset = false
+outOfOrder h Ack = not (h .owed)
+outOfOrder h Cancel = false
+outOfOrder h Filter = false
+outOfOrder h StartRequest = false
+outOfOrder h PlainRequest = false
+outOfOrder h StreamStatus = false
+outOfOrder h PlainReply = false
+outOfOrder h StreamData = false
 
 -- ---- 28: "kinds 12, 13 and 102 want iso, ..": the row of its endpoint, or a row of its mask, has another type
 
@@ -116,9 +123,6 @@ abbrev pub wrongType : Rows → Event → Bool
 wrongType rows e = traitsOf (e .class) .typed && mistypedBy rows (e .typed)
 
 -- ---- 29: "guest kinds 100 to 103 while a kind 6 or 9 waits."
-
-abbrev pub isTransfer : Event → Bool
-isTransfer e = isGuest (e .sender) && leb 100 (e .request .kind) && leb (e .request .kind) 103
 
 abbrev pub settling : Requests → Event → Bool
 settling t e = isTransfer e && isSome (lowest t Settling)
@@ -142,6 +146,11 @@ abbrev pub isFull : Requests → Event → Bool
 isFull t e = traitsOf (e .class) .request && not (isSome (lowest t Free))
 
 -- ---- 33, 34: the request that a reply answers
+
+-- the request that a reply answers, with its place
+pub data Match : Type 0 where
+  Unmatched : Match
+  Matched : ℕ → Request → Match
 
 abbrev pub matchIn : Requests → Option ℕ → Match
 matchIn t none = Unmatched
@@ -181,22 +190,22 @@ abbrev pub firstOf : List Check → ℕ
 firstOf [] = 0
 firstOf (c ∷ cs) = cond (c .holds) (c .number) (firstOf cs)
 
-abbrev pub checks : Device → Requests → Event → Match → List Check
-checks d t e m =
-    25 when noDevice d e
-    ∷ 27 when ackOwed d e
-    ∷ 26 when outOfOrder d (e .class)
-    ∷ 28 when wrongType (d .rows) e
+abbrev pub checks : Head → Rows → Requests → Event → Match → List Check
+checks h rows t e m =
+    25 when noDevice h e
+    ∷ 27 when ackOwed h e
+    ∷ 26 when outOfOrder h (e .class)
+    ∷ 28 when wrongType rows e
     ∷ 29 when settling t e
-    ∷ 30 when streamClosed (d .rows) e
+    ∷ 30 when streamClosed rows e
     ∷ 31 when idInUse t e
     ∷ 32 when isFull t e
     ∷ 33 when noSuchRequest e m
     ∷ 34 when tooLong e m
     ∷ []
 
-unfoldable pub numberFor : Device → Requests → Event → Match → ℕ
-numberFor d t e m = firstOf (checks d t e m)
+unfoldable pub numberFor : Head → Rows → Requests → Event → Match → ℕ
+numberFor h rows t e m = firstOf (checks h rows t e m)
 
-unfoldable pub numberOf : Device → Requests → Event → ℕ
-numberOf d t e = numberFor d t e (matchOf t e)
+unfoldable pub numberOf : Head → Rows → Requests → Event → ℕ
+numberOf h rows t e = numberFor h rows t e (matchOf t e)

@@ -1,1 +1,4 @@
 pub mod Checks
+pub mod Change
+pub mod Ruled
+pub mod Agree

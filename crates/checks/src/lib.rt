@@ -1,106 +1,64 @@
-// The session checks 25 to 34: each a function of its own, and the number, which is the first of them that holds.
+// The session checks 25 to 34: a packet's case is ruled on over the columns of the session, which are lent.
 ghost use mathlib.Core.Path.{_≡_};
-ghost use Rattle.requests.specs.Requests.{foundAt};
-ghost use Rattle.checks.specs.Checks.{traitsOf, isSome, noDevice, ackOwed, isBegun, isDone, outOfOrder, mistypedBy, wrongType, isTransfer, settling, isOpen, streamClosed, idInUse, isFull, matchOf, isUnmatched, isUnsolicited, noSuchRequest, tooLong, numberFor};
-use device::Device;
+ghost use Rattle.device.specs.declared.Rows.{Rows};
+ghost use Rattle.requests.specs.declared.Requests.{Requests};
+ghost use Rattle.requests.specs.Requests.{Id, lowest, Lent};
+ghost use Rattle.checks.specs.Checks.{isBegun, isDone, mistypedBy};
+ghost use Rattle.checks.specs.Ruled.{askedBy, unmatched, scopeTo, settledBy, settledIn, awaited, settled, answeredIn, streamedBy, ruled};
+ghost use Rattle.checks.specs.declared.Ruling.the-variants.{Passed, Refused};
+ghost use mathlib.Core.Bool.{cond};
+ghost use Rattle.events.specs.declared.Case.the-variants as cases;
+use device::Head;
 use device::Introduction;
-use device::Rows;
+use device::Scope;
+use device::is_streaming;
 use device::mask_mistyped;
-use device::state_at;
-use events::Class;
-use events::Event;
+use device::type_at;
+use endpoint::Endpoint;
+use events::Case;
+use events::Reply;
 use events::Typed;
-use kinds::is_guest;
 use requests::Found;
-use requests::Query;
 use requests::Request;
-use requests::Requests;
-use requests::find;
-use requests::place_of;
+use requests::Slot;
+use requests::find_free;
+use requests::find_id;
+use requests::is_settling;
+use requests::kind_at;
 
-// What the checks ask of a class.
-pub struct Traits {
-    // it needs a device
-    pub device: bool,
-    // it introduces a device
-    pub introduces: bool,
-    // its endpoint's row, or every row of its mask, has to have the type that its kind wants
-    pub typed: bool,
-    // the stream of its row has to be open
-    pub streamed: bool,
-    // it takes a place
-    pub request: bool,
-    // it answers a request
-    pub reply: bool,
-    // it may come without one
-    pub unsolicited: bool,
+// What a packet that passes does.
+pub enum Change {
+    Nothing,
+    // a hello with its first capability word
+    Hello(u32),
+    Connect,
+    Interfaces,
+    Endpoints,
+    Disconnect,
+    Reset,
+    Acknowledge,
+    // a request takes a place
+    Take(usize, Request),
+    // and opens the stream of its row
+    Start(usize, Request, Typed),
+    // a reply frees a place, 96 for none; it opens or closes the stream of its row; the rows whose data requests and streams end with it
+    Answer(usize, Typed, bool, Scope),
 }
 
-// The request that a reply answers, with its place.
-pub enum Match {
-    Unmatched,
-    Matched(usize, Request),
+pub enum Ruling {
+    Refused(u8),
+    Passed(Change),
+    // a reply whose request is at a place, the slot of which decides: what it has to have; then what the reply does, as in Answer
+    Pending(usize, Expected, Typed, bool, Scope),
 }
 
-fn with_traits(
-    device: bool,
-    introduces: bool,
-    typed: bool,
-    streamed: bool,
-    request: bool,
-    reply: bool,
-    unsolicited: bool,
-) -> Traits
-    ensures { λ r. ⌜ r ≡ record { device = device; introduces = introduces; typed = typed; streamed = streamed; request = request; reply = reply; unsolicited = unsolicited } ⌝ }
-{
-    Traits {
-        device,
-        introduces,
-        typed,
-        streamed,
-        request,
-        reply,
-        unsolicited,
-    }
-}
-
-pub fn traits_of(c: Class) -> Traits
-    ensures { λ r. ⌜ r ≡ traitsOf c ⌝ }
-{
-    match c {
-        Class::Hello => with_traits(false, false, false, false, false, false, false),
-        Class::Connect => with_traits(false, true, false, false, false, false, false),
-        Class::Interfaces => with_traits(false, true, false, false, false, false, false),
-        Class::Endpoints => with_traits(false, true, false, false, false, false, false),
-        Class::Disconnect => with_traits(true, false, false, false, false, false, false),
-        Class::Reset => with_traits(true, false, false, false, false, false, false),
-        Class::Ack => with_traits(false, false, false, false, false, false, false),
-        Class::Cancel => with_traits(true, false, false, false, false, false, false),
-        Class::Filter => with_traits(false, false, false, false, false, false, false),
-        Class::StartRequest => with_traits(true, false, true, false, true, false, false),
-        Class::PlainRequest => with_traits(true, false, true, false, true, false, false),
-        Class::StreamStatus => with_traits(true, false, false, false, false, true, true),
-        Class::PlainReply => with_traits(true, false, false, false, false, true, false),
-        Class::StreamData => with_traits(true, false, true, true, false, false, false),
-    }
-}
-
-// 25
-fn no_device(d: Device, e: Event) -> bool
-    ensures { λ r. ⌜ r ≡ noDevice d e ⌝ }
-{
-    let c = e.class;
-    let t = traits_of(c);
-    t.device & !d.present
-}
-
-// 27
-fn ack_owed(d: Device, e: Event) -> bool
-    ensures { λ r. ⌜ r ≡ ackOwed d e ⌝ }
-{
-    let c = e.class;
-    let t = traits_of(c);
-    t.introduces & d.owed
+// What the slot of a request has to have for its reply to pass: a length of at least this, and this endpoint or interface byte where
+// it is compared; and whether the reply may come unasked.
+pub struct Expected {
+    pub length: u32,
+    pub target: u8,
+    pub targeted: bool,
+    pub unasked: bool,
 }
 
 fn is_begun(i: Introduction) -> bool
@@ -123,226 +81,283 @@ fn is_done(i: Introduction) -> bool
     }
 }
 
-// 26
-fn out_of_order(d: Device, c: Class) -> bool
-    ensures { λ r. ⌜ r ≡ outOfOrder d c ⌝ }
-{
-    let i = d.introduction;
-    match c {
-        Class::Hello => false,
-        Class::Connect => d.present | !is_done(i),
-        Class::Interfaces => !d.present & !is_begun(i),
-        Class::Endpoints => false,
-        Class::Disconnect => false,
-        Class::Reset => false,
-        Class::Ack => !d.owed,
-        Class::Cancel => false,
-        Class::Filter => false,
-        Class::StartRequest => false,
-        Class::PlainRequest => false,
-        Class::StreamStatus => false,
-        Class::PlainReply => false,
-        Class::StreamData => false,
-    }
-}
-
-fn mistyped_by(rows: Rows, typed: Typed) -> bool
-    ensures { λ r. ⌜ r ≡ mistypedBy rows typed ⌝ }
-{
-    match typed {
-        Typed::Untyped => false,
-        Typed::OfEndpoint(endpoint, ty) => {
-            let r = state_at(rows, endpoint);
-            r.ty != ty
-        }
-        Typed::OfMask(mask, ty) => mask_mistyped(rows, mask, ty),
-    }
-}
-
 // 28
-fn wrong_type(rows: Rows, e: Event) -> bool
-    ensures { λ r. ⌜ r ≡ wrongType rows e ⌝ }
-{
-    let c = e.class;
-    let t = traits_of(c);
-    let typed = e.typed;
-    t.typed & mistyped_by(rows, typed)
-}
-
-fn is_transfer(e: Event) -> bool
-    ensures { λ r. ⌜ r ≡ isTransfer e ⌝ }
-{
-    let from = e.sender;
-    let q = e.request;
-    is_guest(from) & (100 <= q.kind) & (q.kind <= 103)
-}
-
-fn is_found(f: Found) -> bool
-    ensures { λ r. ⌜ r ≡ isSome (foundAt f) ⌝ }
-{
-    match f {
-        Found::At(_) => true,
-        Found::Nowhere => false,
-    }
-}
-
-// 29
-fn is_settling(t: Requests, e: Event) -> bool
-    ensures { λ r. ⌜ r ≡ settling t e ⌝ }
-{
-    if is_transfer(e) {
-        is_found(find(t, Query::Settling))
-    } else {
-        false
-    }
-}
-
-fn is_open(rows: Rows, typed: Typed) -> bool
-    ensures { λ r. ⌜ r ≡ isOpen rows typed ⌝ }
+fn is_mistyped(types: &[u8; 32], typed: Typed) -> bool
+    ensures { λ r. ⌜ ((d : Rows) → d .types ≡ now (types .entry) → r ≡ mistypedBy d typed) ⌝ }
 {
     match typed {
         Typed::Untyped => false,
-        Typed::OfEndpoint(endpoint, _) => {
-            let r = state_at(rows, endpoint);
-            r.streaming
+        Typed::OfEndpoint(e, ty) => type_at(types, e) != ty,
+        Typed::OfMask(mask, ty) => mask_mistyped(types, mask, ty),
+    }
+}
+
+// 27, 26
+fn rule_connect(h: Head) -> Ruling
+    ensures { λ r. ⌜ ((d : Rows) (t : Requests) → r ≡ ruled h d t cases.Connect) ⌝ }
+{
+    if h.owed {
+        return Ruling::Refused(27);
+    }
+    let i = h.introduction;
+    if h.present | !is_done(i) {
+        return Ruling::Refused(26);
+    }
+    Ruling::Passed(Change::Connect)
+}
+
+fn rule_interfaces(h: Head) -> Ruling
+    ensures { λ r. ⌜ ((d : Rows) (t : Requests) → r ≡ ruled h d t cases.Interfaces) ⌝ }
+{
+    if h.owed {
+        return Ruling::Refused(27);
+    }
+    let i = h.introduction;
+    if !h.present & !is_begun(i) {
+        return Ruling::Refused(26);
+    }
+    Ruling::Passed(Change::Interfaces)
+}
+
+// 28, 29, 31, 32
+fn rule_request<'a>(
+    types: &'a [u8; 32],
+    used: usize,
+    live: &'a [bool; 96],
+    kinds: &'a [u8; 96],
+    ids: &'a [u64; 96],
+    q: Request,
+    typed: Typed,
+    starts: bool,
+    transfer: bool,
+) -> Ruling
+    ensures { λ r. ⌜ ((d : Rows) (t : Requests) → d .types ≡ now (types .entry) → Lent t used (now (live .entry)) (now (kinds .entry)) (now (ids .entry)) → r ≡ askedBy d t q typed starts transfer) ⌝ }
+{
+    if is_mistyped(types, typed) {
+        return Ruling::Refused(28);
+    }
+    if transfer {
+        if is_settling(used, live, kinds) {
+            return Ruling::Refused(29);
         }
-        Typed::OfMask(_, _) => false,
+    }
+    let same = find_id(used, live, ids, q.id);
+    match same {
+        Found::At(_) => Ruling::Refused(31),
+        Found::Nowhere => {
+            let f = find_free(used, live);
+            match f {
+                Found::At(i) => {
+                    if starts {
+                        Ruling::Passed(Change::Start(i, q, typed))
+                    } else {
+                        Ruling::Passed(Change::Take(i, q))
+                    }
+                }
+                Found::Nowhere => Ruling::Refused(32),
+            }
+        }
     }
 }
 
-// 30
-fn stream_closed(rows: Rows, e: Event) -> bool
-    ensures { λ r. ⌜ r ≡ streamClosed rows e ⌝ }
+// 33, where no request is answered
+fn rule_unmatched(typed: Typed, unasked: bool) -> Ruling
+    ensures { λ r. ⌜ r ≡ unmatched typed unasked ⌝ }
 {
-    let c = e.class;
-    let t = traits_of(c);
-    let typed = e.typed;
-    t.streamed & !is_open(rows, typed)
+    if unasked {
+        return Ruling::Passed(Change::Answer(96, typed, false, Scope::Nowhere));
+    }
+    Ruling::Refused(33)
 }
 
-// 31
-fn id_in_use(t: Requests, e: Event) -> bool
-    ensures { λ r. ⌜ r ≡ idInUse t e ⌝ }
+// What else a reply to a request of this kind ends.
+fn scope_to(r: Reply, kind: u8) -> Scope
+    ensures { λ s. ⌜ s ≡ scopeTo r kind ⌝ }
 {
-    let c = e.class;
-    let traits = traits_of(c);
-    let q = e.request;
-    if traits.request {
-        is_found(find(t, Query::Id(q.id)))
+    let told = r.told;
+    if r.status != 0 {
+        return Scope::Nowhere;
+    }
+    if kind == 6 {
+        return Scope::Everywhere;
+    }
+    if kind == 9 {
+        Scope::OfInterface(told.target)
     } else {
-        false
+        Scope::Nowhere
     }
 }
 
-// 32
-fn is_full(t: Requests, e: Event) -> bool
-    ensures { λ r. ⌜ r ≡ isFull t e ⌝ }
+// A reply waits for the slot of the request with its id.
+fn rule_reply<'a>(
+    used: usize,
+    live: &'a [bool; 96],
+    kinds: &'a [u8; 96],
+    ids: &'a [u64; 96],
+    r: Reply,
+    typed: Typed,
+    unasked: bool,
+) -> Ruling
+    ensures { λ u. ⌜ ((t : Requests) → Lent t used (now (live .entry)) (now (kinds .entry)) (now (ids .entry)) → settled u t ≡ answeredIn t r typed unasked (lowest t (Id (r .told .id)))) ⌝ }
 {
-    let c = e.class;
-    let traits = traits_of(c);
-    if traits.request {
-        !is_found(find(t, Query::Free))
-    } else {
-        false
-    }
-}
-
-// The request that a reply answers: a live one of a kind that it can answer, with its id and, where both carry one, its endpoint or
-// interface.
-pub fn match_of(t: Requests, e: Event) -> Match
-    ensures { λ r. ⌜ r ≡ matchOf t e ⌝ }
-{
-    let c = e.class;
-    let traits = traits_of(c);
-    let q = e.request;
-    let a = e.answers;
-    if !traits.reply {
-        return Match::Unmatched;
-    }
-    let f = find(t, Query::Answered(q, a));
+    let told = r.told;
+    let a = r.answers;
+    let alone = unasked & (told.id == 0) & (r.status == 4);
+    let f = find_id(used, live, ids, told.id);
     match f {
         Found::At(i) => {
-            let p = place_of(t, i);
-            let r = p.request;
-            Match::Matched(i, r)
+            let kind = kind_at(kinds, i);
+            if (kind == a.first) | (kind == a.second) {
+                let x = Expected {
+                    length: told.length,
+                    target: told.target,
+                    targeted: a.targeted,
+                    unasked: alone,
+                };
+                let opens = (r.status == 0) & (kind == a.first);
+                return Ruling::Pending(i, x, typed, opens, scope_to(r, kind));
+            }
+            rule_unmatched(typed, alone)
         }
-        Found::Nowhere => Match::Unmatched,
+        Found::Nowhere => rule_unmatched(typed, alone),
     }
 }
 
-fn is_unmatched(m: Match) -> bool
-    ensures { λ r. ⌜ r ≡ isUnmatched m ⌝ }
+// 33, 34, by the slot of the request that has the reply's id
+fn settle_reply(
+    i: usize,
+    x: Expected,
+    typed: Typed,
+    opens: bool,
+    scope: Scope,
+    slot: Slot,
+) -> Ruling
+    ensures { λ r. ⌜ r ≡ settledBy i x typed opens scope slot ⌝ }
 {
-    match m {
-        Match::Unmatched => true,
-        Match::Matched(_, _) => false,
+    if x.targeted & (slot.target != x.target) {
+        return rule_unmatched(typed, x.unasked);
+    }
+    if slot.length < x.length {
+        return Ruling::Refused(34);
+    }
+    Ruling::Passed(Change::Answer(i, typed, opens, scope))
+}
+
+// The place whose slot a ruling waits for, 96 where it waits for none.
+pub fn awaited_place(u: Ruling) -> usize
+    ensures { λ r. ⌜ r ≡ awaited u ⌝ }
+{
+    match u {
+        Ruling::Refused(_) => 96,
+        Ruling::Passed(_) => 96,
+        Ruling::Pending(i, _, _, _, _) => i,
     }
 }
 
-fn is_unsolicited(e: Event) -> bool
-    ensures { λ r. ⌜ r ≡ isUnsolicited e ⌝ }
+// A ruling with the slot that it waits for.
+pub fn settle(u: Ruling, slot: Slot) -> Ruling
+    ensures { λ r. ⌜ r ≡ settledIn u slot ⌝ }
 {
-    let c = e.class;
-    let t = traits_of(c);
-    let q = e.request;
-    t.unsolicited & (q.id == 0) & (e.status == 4)
-}
-
-// 33
-fn no_such_request(e: Event, m: Match) -> bool
-    ensures { λ r. ⌜ r ≡ noSuchRequest e m ⌝ }
-{
-    let c = e.class;
-    let t = traits_of(c);
-    t.reply & is_unmatched(m) & !is_unsolicited(e)
-}
-
-// 34
-fn too_long(e: Event, m: Match) -> bool
-    ensures { λ r. ⌜ r ≡ tooLong e m ⌝ }
-{
-    let reply = e.request;
-    match m {
-        Match::Unmatched => false,
-        Match::Matched(_, q) => q.length < reply.length,
+    match u {
+        Ruling::Refused(n) => Ruling::Refused(n),
+        Ruling::Passed(c) => Ruling::Passed(c),
+        Ruling::Pending(i, x, typed, opens, scope) => settle_reply(i, x, typed, opens, scope, slot),
     }
 }
 
-// The number of a packet, by the request that it answers: the first check that holds, 0 where none does.
-pub fn number_for(d: Device, t: Requests, e: Event, m: Match) -> u8
-    ensures { λ r. ⌜ r ≡ numberFor d t e m ⌝ }
+// 28 to 30
+fn rule_stream<'a>(
+    types: &'a [u8; 32],
+    streams: &'a [bool; 32],
+    used: usize,
+    live: &'a [bool; 96],
+    kinds: &'a [u8; 96],
+    e: Endpoint,
+    ty: u8,
+    transfer: bool,
+) -> Ruling
+    ensures { λ r. ⌜ ((d : Rows) (t : Requests) → d .types ≡ now (types .entry) → d .streams ≡ now (streams .entry) → t .used ≡ used → t .live ≡ now (live .entry) → t .kinds ≡ now (kinds .entry) → r ≡ streamedBy d t e ty transfer) ⌝ }
 {
-    let c = e.class;
-    let rows = d.rows;
-    if no_device(d, e) {
-        return 25;
+    if type_at(types, e) != ty {
+        return Ruling::Refused(28);
     }
-    if ack_owed(d, e) {
-        return 27;
+    if transfer {
+        if is_settling(used, live, kinds) {
+            return Ruling::Refused(29);
+        }
     }
-    if out_of_order(d, c) {
-        return 26;
+    if is_streaming(streams, e) {
+        Ruling::Passed(Change::Nothing)
+    } else {
+        Ruling::Refused(30)
     }
-    if wrong_type(rows, e) {
-        return 28;
+}
+
+fn with_device(present: bool, c: Change) -> Ruling
+    ensures { λ r. ⌜ r ≡ cond present (Passed c) (Refused 25) ⌝ }
+{
+    if present {
+        Ruling::Passed(c)
+    } else {
+        Ruling::Refused(25)
     }
-    if is_settling(t, e) {
-        return 29;
+}
+
+// Rules on a packet by its case; a reply may be left to the slot of a place.
+pub fn rule<'a>(
+    h: Head,
+    types: &'a [u8; 32],
+    streams: &'a [bool; 32],
+    used: usize,
+    live: &'a [bool; 96],
+    kinds: &'a [u8; 96],
+    ids: &'a [u64; 96],
+    c: Case,
+) -> Ruling
+    ensures { λ r. ⌜ ((d : Rows) (t : Requests) → d .types ≡ now (types .entry) → d .streams ≡ now (streams .entry) → Lent t used (now (live .entry)) (now (kinds .entry)) (now (ids .entry)) → settled r t ≡ ruled h d t c) ⌝ }
+{
+    match c {
+        Case::Hello(word) => Ruling::Passed(Change::Hello(word)),
+        Case::Connect => rule_connect(h),
+        Case::Interfaces => rule_interfaces(h),
+        Case::Endpoints => {
+            if h.owed {
+                Ruling::Refused(27)
+            } else {
+                Ruling::Passed(Change::Endpoints)
+            }
+        }
+        Case::Disconnect => with_device(h.present, Change::Disconnect),
+        Case::Reset => with_device(h.present, Change::Reset),
+        Case::Ack => {
+            if h.owed {
+                Ruling::Passed(Change::Acknowledge)
+            } else {
+                Ruling::Refused(26)
+            }
+        }
+        Case::Cancel => with_device(h.present, Change::Nothing),
+        Case::Filter => Ruling::Passed(Change::Nothing),
+        Case::Asks(q, typed, starts, transfer) => {
+            if h.present {
+                rule_request(types, used, live, kinds, ids, q, typed, starts, transfer)
+            } else {
+                Ruling::Refused(25)
+            }
+        }
+        Case::Answers(r, typed, unasked) => {
+            if h.present {
+                rule_reply(used, live, kinds, ids, r, typed, unasked)
+            } else {
+                Ruling::Refused(25)
+            }
+        }
+        Case::Streams(e, ty, transfer) => {
+            if h.present {
+                rule_stream(types, streams, used, live, kinds, e, ty, transfer)
+            } else {
+                Ruling::Refused(25)
+            }
+        }
     }
-    if stream_closed(rows, e) {
-        return 30;
-    }
-    if id_in_use(t, e) {
-        return 31;
-    }
-    if is_full(t, e) {
-        return 32;
-    }
-    if no_such_request(e, m) {
-        return 33;
-    }
-    if too_long(e, m) {
-        return 34;
-    }
-    0
 }

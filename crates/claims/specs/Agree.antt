@@ -18,18 +18,16 @@ use Rattle.kinds.specs.Table.{G, H, Kind, kinds}
 use Rattle.kinds.specs.Content.{Value, Content, find, packetOf}
 use Rattle.kinds.specs.Codec.{layout}
 use Rattle.kinds.specs.Number.{sends}
-use Rattle.device.specs.declared.Device.{Device}
+use Rattle.device.specs.declared.Head.{Head}
 use Rattle.device.specs.Device.{bulk}
 use Rattle.requests.specs.declared.Request.{Request}
-use Rattle.requests.specs.declared.Place.{Place}
 use Rattle.requests.specs.declared.Requests.{Requests}
 use Rattle.scan.specs.Scan.{firstAt}
-use Rattle.requests.specs.Requests.{noRequest, answers}
+use Rattle.requests.specs.Requests.{Place, placesOf, noRequest, answers}
 use Rattle.events.specs.declared.Typed.{Typed}
 use Rattle.events.specs.declared.Typed.the-variants.{Untyped, OfEndpoint, OfMask}
-use Rattle.events.specs.declared.Event.{Event}
 use Rattle.events.specs.Meaning.{meanings}
-use Rattle.events.specs.Event.{field, meaningOf, eventOf}
+use Rattle.events.specs.Event.{Event, field, meaningOf, eventOf}
 use Rattle.checks.specs.Checks.{traitsOf, outOfOrder, isBegun, isDone}
 use Rattle.claims.specs.Allowed.{among, isRequest, isReply, answersKind, carriesTarget, wants, onStream, endpointNamed, inwardOf, replyTarget, requestOf}
 
@@ -37,7 +35,7 @@ use Rattle.claims.specs.Allowed.{among, isRequest, isReply, answersKind,
 pub record Facts : Type 0 where
   pub device : Bool
   pub introduces : Bool
-  pub order : Device → Bool
+  pub order : Head → Bool
   pub typed : Typed
   pub stream : Typed
   pub streamed : Bool
@@ -53,7 +51,7 @@ factsOf e =
     record {
       device = traitsOf (e .class) .device;
       introduces = traitsOf (e .class) .introduces;
-      order = λ (d : Device). outOfOrder d (e .class);
+      order = λ (h : Head). outOfOrder h (e .class);
       typed = cond (traitsOf (e .class) .typed) (e .typed) Untyped;
       stream = cond (traitsOf (e .class) .streamed) (e .typed) Untyped;
       streamed = traitsOf (e .class) .streamed;
@@ -66,10 +64,10 @@ factsOf e =
 
 -- ---- the same by document 01's lists
 
-abbrev pub disordered : ℕ → Device → Bool
-disordered kind d =
-    cond (eqb kind 1) (d .present || not (isDone (d .introduction)))
-    (cond (eqb kind 4) (not (d .present) && not (isBegun (d .introduction))) (cond (eqb kind 24) (not (d .owed)) false))
+abbrev pub disordered : ℕ → Head → Bool
+disordered kind h =
+    cond (eqb kind 1) (h .present || not (isDone (h .introduction)))
+    (cond (eqb kind 4) (not (h .present) && not (isBegun (h .introduction))) (cond (eqb kind 24) (not (h .owed)) false))
 
 abbrev pub rowBy : Option ℕ → Content → Typed
 rowBy none p = Untyped
@@ -83,7 +81,7 @@ answersBy p q = eqb (q .id) (p .id) && answersKind (p .kind) (q .kind) && (not (
 
 -- the lowest place whose live request the reply answers
 abbrev pub answeredAt : Requests → Content → Option ℕ
-answeredAt t p = firstAt (λ (q : Place). q .live && answersBy p (q .request)) 0 (t .places)
+answeredAt t p = firstAt (λ (q : Place). q .live && answersBy p (q .request)) 0 (placesOf t)
 
 -- of a packet, by its kind's number
 abbrev pub factsBy : Side → Content → Facts

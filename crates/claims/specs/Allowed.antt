@@ -7,7 +7,6 @@ use mathlib.Core.List.{List, [], _∷_}
 use mathlib.Core.Logic.{_⊎_}
 use mathlib.Core.Option.{Option, none, some}
 use mathlib.Core.Path.{_≡_}
-use lib.ListN.{length, getD}
 use lib.Dec.{eqb}
 use Rattle.number.specs.Bits.{hasBit}
 use Rattle.endpoint.specs.declared.Endpoint.{Endpoint}
@@ -17,7 +16,7 @@ use Rattle.kinds.specs.Content.{Content}
 use Rattle.kinds.specs.Codec.{layout}
 use Rattle.kinds.specs.Number.{isGuest, dataLength}
 use Rattle.device.specs.declared.Introduction.the-variants.{Nothing, Two}
-use Rattle.device.specs.Device.{control, iso, bulk, interrupt, closedRow, stateAt}
+use Rattle.device.specs.Device.{control, iso, bulk, interrupt, rowAt, stateAt}
 use Rattle.requests.specs.declared.Request.{Request}
 use Rattle.requests.specs.declared.Requests.{Requests}
 use Rattle.requests.specs.Requests.{placeAt}
@@ -101,7 +100,7 @@ requestOf p = record { id = p .id; kind = p .kind; target = requestTarget p; len
 
 -- the live request at place i has the reply's id, a kind that it answers and, where both carry one, its endpoint or interface
 pub record AnsweredBy (t : Requests) (p : Content) (i : ℕ) : Type 0 where
-  pub place : i < length (t .places)
+  pub place : i < 96
   pub live : placeAt t i .live ≡ true
   pub id : placeAt t i .request .id ≡ p .id
   pub kind : answersKind (p .kind) (placeAt t i .request .kind) ≡ true
@@ -118,22 +117,22 @@ pub record Unsolicited (t : Requests) (p : Content) : Type 0 where
 
 pub record Allowed (s : Session) (from : Side) (p : Content) : Type 0 where
   -- 25: "All kinds but 0, 1, 4, 5, 22, 23, 24 get 25 without a device."
-  pub device : among (0 ∷ 1 ∷ 4 ∷ 5 ∷ 22 ∷ 23 ∷ 24 ∷ []) (p .kind) ≡ false → s .device .present ≡ true
+  pub device : among (0 ∷ 1 ∷ 4 ∷ 5 ∷ 22 ∷ 23 ∷ 24 ∷ []) (p .kind) ≡ false → s .head .present ≡ true
   -- 27: "Kinds 1, 4, 5 get 27 while an ack is owed"
-  pub ack : among (1 ∷ 4 ∷ 5 ∷ []) (p .kind) ≡ true → s .device .owed ≡ false
+  pub ack : among (1 ∷ 4 ∷ 5 ∷ []) (p .kind) ≡ true → s .head .owed ≡ false
   -- 26: "1 needs two .. With a device, 1 gets 26"; "4 needs one or two"; "24 clears it; when none is owed, 26"
-  pub connect : p .kind ≡ 1 → (s .device .present ≡ false) × (s .device .introduction ≡ Two)
-  pub interfaces : p .kind ≡ 4 → s .device .present ≡ false → s .device .introduction ≡ Nothing → ⊥
-  pub acknowledgement : p .kind ≡ 24 → s .device .owed ≡ true
+  pub connect : p .kind ≡ 1 → (s .head .present ≡ false) × (s .head .introduction ≡ Two)
+  pub interfaces : p .kind ≡ 4 → s .head .present ≡ false → s .head .introduction ≡ Nothing → ⊥
+  pub acknowledgement : p .kind ≡ 24 → s .head .owed ≡ true
   -- 28: the row of its endpoint has the type that it wants; "18, 19 (every mask bit)" bulk
-  pub type : (ty : ℕ) → wants from (p .kind) (inwardOf p) ≡ some ty → stateAt (s .device .rows) (endpointNamed p) .ty ≡ ty
-  pub types : among (18 ∷ 19 ∷ []) (p .kind) ≡ true → (r : ℕ) → r < length (s .device .rows .rows) → hasBit (field "mask" p) r ≡ true → getD (s .device .rows .rows) r (closedRow 0) .ty ≡ bulk
+  pub type : (ty : ℕ) → wants from (p .kind) (inwardOf p) ≡ some ty → stateAt (s .rows) (endpointNamed p) .ty ≡ ty
+  pub types : among (18 ∷ 19 ∷ []) (p .kind) ≡ true → (r : ℕ) → r < 32 → hasBit (field "mask" p) r ≡ true → rowAt (s .rows) r .ty ≡ bulk
   -- 29: "guest kinds 100 to 103 while a kind 6 or 9 waits"
-  pub settled : isGuest from ≡ true → 100 ≤ p .kind → p .kind ≤ 103 → (i : ℕ) → i < length (s .requests .places) → placeAt (s .requests) i .live ≡ true → oneOf 6 9 (placeAt (s .requests) i .request .kind) ≡ false
+  pub settled : isGuest from ≡ true → 100 ≤ p .kind → p .kind ≤ 103 → (i : ℕ) → i < 96 → placeAt (s .requests) i .live ≡ true → oneOf 6 9 (placeAt (s .requests) i .request .kind) ≡ false
   -- 30: "kind 102, host 103 IN and 104 on a closed stream"
-  pub stream : onStream from (p .kind) (inwardOf p) ≡ true → stateAt (s .device .rows) (endpointNamed p) .streaming ≡ true
+  pub stream : onStream from (p .kind) (inwardOf p) ≡ true → stateAt (s .rows) (endpointNamed p) .streaming ≡ true
   -- 31, 32: "31 if any live request has that id, else 32 if full"
-  pub unused : isRequest from (p .kind) ≡ true → (i : ℕ) → i < length (s .requests .places) → placeAt (s .requests) i .live ≡ true → placeAt (s .requests) i .request .id ≡ p .id → ⊥
-  pub room : isRequest from (p .kind) ≡ true → (i : ℕ) × (i < length (s .requests .places)) × (placeAt (s .requests) i .live ≡ false)
+  pub unused : isRequest from (p .kind) ≡ true → (i : ℕ) → i < 96 → placeAt (s .requests) i .live ≡ true → placeAt (s .requests) i .request .id ≡ p .id → ⊥
+  pub room : isRequest from (p .kind) ≡ true → (i : ℕ) × (i < 96) × (placeAt (s .requests) i .live ≡ false)
   -- 33, 34: an outstanding request that it answers, and its length is not over that request's; or it is unsolicited
   pub reply : isReply from (p .kind) (inwardOf p) ≡ true → ((i : ℕ) × AnsweredBy (s .requests) p i × (countOf p ≤ placeAt (s .requests) i .request .length)) ⊎ Unsolicited (s .requests) p

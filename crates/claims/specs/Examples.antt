@@ -15,16 +15,15 @@ use Rattle.kinds.specs.Table.{kinds}
 use Rattle.kinds.specs.Content.{Value, one, packetOf}
 use Rattle.kinds.specs.Codec.{layout}
 use Rattle.kinds.specs.Number.{onward, bad, kindNumber, wireNumber}
-use Rattle.scan.specs.Scan.{firstAt, exists, anyAt, eachAt}
-use Rattle.device.specs.Device.{startRows, startDevice, replaced, streamTo, closed, touched}
-use Rattle.requests.specs.Requests.{freshRequests, lowest, withPlace, released}
+use Rattle.scan.specs.Scan.{firstAt, exists, anyAt, tabulated}
+use Rattle.device.specs.Device.{rowsOf, startRows, startHead, replaced, streamTo, closed, touched}
+use Rattle.requests.specs.Requests.{freshRequests, placeAt, placesOf, lowest, withRequest, trimmed, without as freeing, released, cleared}
 use Rattle.events.specs.Meaning.{meanings}
 use Rattle.events.specs.Event.{meaningOf, eventOf}
 use Rattle.checks.specs.Checks.{matchOf, numberFor}
 use Rattle.session.specs.declared.Session.{Session}
-use Rattle.session.specs.declared.Judged.{Judged}
 use Rattle.session.specs.Session.{freshSession, linkOf}
-use Rattle.session.specs.Step.{nextFor, judged}
+use Rattle.session.specs.Step.{applied, nextFor, Judged, judged}
 use Rattle.claims.specs.Runs.{Sent}
 
 -- ---- packets
@@ -299,5 +298,5 @@ abbrev runs : List Run
 runs = devices ++ rowsAndSettling ++ onStreams ++ matching ++ settings
 
 pub as-expected : answersOf runs ≡ expectedOf runs
-unfolding told after numbers wireNumber kindNumber bad idWidth freshSession judged numberFor matchOf nextFor eventOf meaningOf meanings layout kinds sharedSet startRows startDevice replaced streamTo closed touched freshRequests lowest withPlace released firstAt exists anyAt eachAt
+unfolding told after numbers wireNumber kindNumber bad idWidth freshSession judged numberFor matchOf nextFor applied eventOf meaningOf meanings layout kinds sharedSet startHead startRows rowsOf replaced streamTo closed touched freshRequests placeAt placesOf lowest withRequest trimmed freeing released cleared firstAt exists anyAt tabulated
 as-expected = refl

@@ -10,7 +10,6 @@ use mathlib.Core.List.{List, [], _∷_}
 use mathlib.Core.Logic.{_↔_, _⊎_, inl, inr}
 use mathlib.Core.Option.{Option, none, some}
 use mathlib.Core.Path.{_≡_, refl, sym, ap, subst, _∙_}
-use lib.ListN.{length}
 use lib.Dec.{eqb, leb}
 use borrow.Author.Tests.{eqb-true, eq-eqb}
 use borrow.Table.Steps.{cases}
@@ -24,19 +23,16 @@ use Rattle.device.specs.declared.Scope.{Scope}
 use Rattle.device.specs.declared.Scope.the-variants.{OfInterface}
 use Rattle.device.specs.Device.{touched}
 use Rattle.requests.specs.declared.Request.{Request}
-use Rattle.requests.specs.declared.Query.{Query}
-use Rattle.requests.specs.declared.Query.the-variants.{Free, Id, Settling, Answered}
-use Rattle.requests.specs.Requests.{freePlace, taken, isData, answers, lowest, placeAt, ends, idsDiffer}
+use Rattle.requests.specs.Requests.{isSome, Query, Free, Id, Settling, Answered, freePlace, taken, isData, answers, lowest, placeAt, ends, idsDiffer}
 use Rattle.requests.specs.Laws.{differ-when}
 use Rattle.kinds.specs.RoundTrip.{clean}
-use Rattle.events.specs.declared.Event.{Event}
 use Rattle.events.specs.Meaning.{meanings, lookUp}
-use Rattle.events.specs.Event.{field, meaningOf, targetOf, eventOf}
-use Rattle.checks.specs.declared.Match.the-variants.{Matched}
-use Rattle.checks.specs.Checks.{traitsOf, isSome, mistypedBy, isOpen, matchIn, matchOf, isUnsolicited, noSuchRequest, numberFor, numberOf}
+use Rattle.events.specs.Event.{Event, field, meaningOf, targetOf, eventOf}
+use Rattle.checks.specs.Checks.{Matched, traitsOf, mistypedBy, isOpen, matchIn, matchOf, isUnsolicited, noSuchRequest, numberFor, numberOf}
 use Rattle.session.specs.declared.Session.{Session}
 use Rattle.session.specs.Session.{linkOf}
-use Rattle.session.specs.Step.{scopeOf, nextFor, judged}
+use Rattle.checks.specs.Change.{scopeOf}
+use Rattle.session.specs.Step.{applied, nextFor, judged}
 use Rattle.claims.specs.Allowed.{among, oneOf, isRequest, isReply, answersKind, carriesTarget, inwardOf, countOf, requestOf, AnsweredBy, Unsolicited, Allowed}
 use Rattle.claims.specs.Agree.{factsOf, factsBy, agrees}
 use Rattle.claims.specs.Passes.{holds-none, passes, answers-to, match-is, alone-to, reply-from, unsolicited-is}
@@ -47,7 +43,7 @@ use Rattle.claims.specs.Steps.{number-is, request-takes, from-host, repl
 -- it takes the lowest free place, and no other place changes
 pub record Takes (s : Session) (p : Content) (next : Session) : Type 0 where
   pub place : ℕ
-  pub within : place < length (s .requests .places)
+  pub within : place < 96
   pub free : placeAt (s .requests) place .live ≡ false
   pub lower : (j : ℕ) → j < place → placeAt (s .requests) j .live ≡ true
   pub holds : placeAt (next .requests) place ≡ taken (requestOf p)
@@ -63,7 +59,7 @@ pub record EndsWith (s : Session) (p : Content) (i j : ℕ) : Type 0 where
   pub status : field "status" p ≡ 0
   pub scope : (placeAt (s .requests) i .request .kind ≡ 6)
       ⊎ ((placeAt (s .requests) i .request .kind ≡ 9)
-      × (touched (s .device .rows) (OfInterface (placeAt (s .requests) i .request .target)) (record { 0 = placeAt (s .requests) j .request .target }) ≡ true))
+      × (touched (s .rows) (OfInterface (placeAt (s .requests) i .request .target)) (record { 0 = placeAt (s .requests) j .request .target }) ≡ true))
 
 -- the reply is handed to the request at place i
 pub record Consumes (s : Session) (p : Content) (next : Session) (i : ℕ) : Type 0 where
@@ -71,7 +67,7 @@ pub record Consumes (s : Session) (p : Content) (next : Session) (i : ℕ) : Typ
   pub answers : AnsweredBy (s .requests) p i
   pub short : countOf p ≤ placeAt (s .requests) i .request .length
   -- no other live request has that id
-  pub only : (j : ℕ) → j < length (s .requests .places) → placeAt (s .requests) j .live ≡ true → placeAt (s .requests) j .request .id ≡ p .id → j ≡ i
+  pub only : (j : ℕ) → j < 96 → placeAt (s .requests) j .live ≡ true → placeAt (s .requests) j .request .id ≡ p .id → j ≡ i
   -- its place is free, as at the start; every other place stays as it was, but for the data requests that end with a setting
   pub freed : placeAt (next .requests) i ≡ freePlace
   pub others : (j : ℕ) → (j ≡ i → ⊥) → (placeAt (next .requests) j ≡ placeAt (s .requests) j) ⊎ (EndsWith s p i j × (placeAt (next .requests) j ≡ freePlace))
@@ -80,8 +76,8 @@ pub record Consumes (s : Session) (p : Content) (next : Session) (i : ℕ) : Typ
 
 -- a reply to a session in which no request with its id waits
 pub record LateReply (s : Session) (from : Side) (p : Content) : Type 0 where
-  pub without-device : s .device .present ≡ false → judged s (eventOf from p) .number ≡ 25
-  pub refused : s .device .present ≡ true → (Unsolicited (s .requests) p → ⊥) → judged s (eventOf from p) .number ≡ 33
+  pub without-device : s .head .present ≡ false → judged s (eventOf from p) .number ≡ 25
+  pub refused : s .head .present ≡ true → (Unsolicited (s .requests) p → ⊥) → judged s (eventOf from p) .number ≡ 33
   pub kept : judged s (eventOf from p) .session .requests ≡ s .requests
 
 -- ---- a reply to a set alt is an 11, and its interface is that of its request
@@ -124,7 +120,7 @@ module _ (s : Session) (from : Side) (p : Content) (w : wireNumber (linkOf from 
   agreed = let c = clean (linkOf from s) p w in agrees from p (c .kind) (c .found) (c .sender)
 
   -- demand 2 for the session checks
-  pub allowed-exactly : idsDiffer (s .requests .places) ≡ true → (judged s e .number ≡ 0) ↔ Allowed s from p
+  pub allowed-exactly : idsDiffer (s .requests) ≡ true → (judged s e .number ≡ 0) ↔ Allowed s from p
   allowed-exactly u =
       let c = clean (linkOf from s) p w in
       let i = passes s from p (c .kind) (c .found) (c .sender) u in
@@ -145,7 +141,7 @@ module _ (s : Session) (from : Side) (p : Content) (w : wireNumber (linkOf from 
     from-a-host = from-host (linkOf from s) p w replying
 
     -- of a reply no check asks but 25, 33 and 34
-    pub reply-passes : idsDiffer (s .requests .places) ≡ true → s .device .present ≡ true
+    pub reply-passes : idsDiffer (s .requests) ≡ true → s .head .present ≡ true
         → (judged s e .number ≡ 0) ↔ (((i : ℕ) × AnsweredBy (s .requests) p i × (countOf p ≤ placeAt (s .requests) i .request .length)) ⊎ Unsolicited (s .requests) p)
     unfolding numberOf
     reply-passes u h = (λ z. allowed-exactly u .0 z .reply r, zero-number)
@@ -155,16 +151,16 @@ module _ (s : Session) (from : Side) (p : Content) (w : wireNumber (linkOf from 
         zero-number x =
             let f = reply-from s from p agreed u (λ k. x) in
             let c = reply-does (e .class) replying in
-            let d = c .2 (s .device) in
+            let d = c .2 (s .head) in
             number-is s e
-            ∙ holds-none (s .device) (s .requests) e (matchOf (s .requests) e)
+            ∙ holds-none (s .head) (s .rows) (s .requests) e (matchOf (s .requests) e)
             (record {
-              device = failing (traitsOf (e .class) .device) (not (s .device .present)) (λ k. false-not (s .device .present) h);
-              ack = ap (λ (b : Bool). b && s .device .owed) (d .1);
+              device = failing (traitsOf (e .class) .device) (not (s .head .present)) (λ k. false-not (s .head .present) h);
+              ack = ap (λ (b : Bool). b && s .head .owed) (d .1);
               order = d .2;
-              type = ap (λ (b : Bool). b && mistypedBy (s .device .rows) (e .typed)) (d .3);
+              type = ap (λ (b : Bool). b && mistypedBy (s .rows) (e .typed)) (d .3);
               settled = ap (λ (b : Bool). b && leb 100 (e .request .kind) && leb (e .request .kind) 103 && isSome (lowest (s .requests) Settling)) from-a-host;
-              stream = ap (λ (b : Bool). b && not (isOpen (s .device .rows) (e .typed))) (d .4);
+              stream = ap (λ (b : Bool). b && not (isOpen (s .rows) (e .typed))) (d .4);
               unused = ap (λ (b : Bool). b && isSome (lowest (s .requests) (Id (e .request .id)))) (c .0);
               room = ap (λ (b : Bool). b && not (isSome (lowest (s .requests) Free))) (c .0);
               matched = f .0;
@@ -188,16 +184,16 @@ module _ (s : Session) (from : Side) (p : Content) (w : wireNumber (linkOf from 
       scope = scopeOf e (Matched i q)
 
       -- the data requests that end with it are those that document 01 names
-      ends-too : ends (s .device .rows) scope (placeAt (s .requests) j) ≡ true → EndsWith s p i j
+      ends-too : ends (s .rows) scope (placeAt (s .requests) j) ≡ true → EndsWith s p i j
       unfolding touched eventOf
       ends-too h =
-          let x = and-parts _ (touched (s .device .rows) scope target) h in
+          let x = and-parts _ (touched (s .rows) scope target) h in
           let y = and-parts (placeAt (s .requests) j .live) _ (x .0) in
           cases (eqb (e .status) 0)
           (λ z. record { live = y .0; kind = y .1; status = eqb-true (e .status) 0 z; scope = by-kind z (x .1) })
           (λ z. absurd (false≢true (rw z at (x .1))))
         where
-          by-kind : eqb (e .status) 0 ≡ true → touched (s .device .rows) scope target ≡ true → (q .kind ≡ 6) ⊎ ((q .kind ≡ 9) × (touched (s .device .rows) (OfInterface (q .target)) target ≡ true))
+          by-kind : eqb (e .status) 0 ≡ true → touched (s .rows) scope target ≡ true → (q .kind ≡ 6) ⊎ ((q .kind ≡ 9) × (touched (s .rows) (OfInterface (q .target)) target ≡ true))
           by-kind z t =
               cases (eqb (q .kind) 6)
               (λ x. inl (eqb-true (q .kind) 6 x))
@@ -205,21 +201,21 @@ module _ (s : Session) (from : Side) (p : Content) (w : wireNumber (linkOf from 
               cases (eqb (q .kind) 9)
               (λ y.
               let nine = eqb-true (q .kind) 9 y in
-              inr (nine, ap (λ (n : ℕ). touched (s .device .rows) (OfInterface n) target) (same-interface i a nine) ∙ (rw (z, x, y) at t)))
+              inr (nine, ap (λ (n : ℕ). touched (s .rows) (OfInterface n) target) (same-interface i a nine) ∙ (rw (z, x, y) at t)))
               (λ y. absurd (false≢true (rw (z, x, y) at t))))
 
-      too-ends : EndsWith s p i j → ends (s .device .rows) scope (placeAt (s .requests) j) ≡ true
+      too-ends : EndsWith s p i j → ends (s .rows) scope (placeAt (s .requests) j) ≡ true
       unfolding touched eventOf
-      too-ends x = and-whole _ (touched (s .device .rows) scope target) (and-whole (placeAt (s .requests) j .live) _ (x .live) (x .kind)) (by-kind (x .scope))
+      too-ends x = and-whole _ (touched (s .rows) scope target) (and-whole (placeAt (s .requests) j .live) _ (x .live) (x .kind)) (by-kind (x .scope))
         where
           zero-status : eqb (e .status) 0 ≡ true
           zero-status = eq-eqb (e .status) 0 (x .status)
 
-          by-kind : (q .kind ≡ 6) ⊎ ((q .kind ≡ 9) × (touched (s .device .rows) (OfInterface (q .target)) target ≡ true)) → touched (s .device .rows) scope target ≡ true
+          by-kind : (q .kind ≡ 6) ⊎ ((q .kind ≡ 9) × (touched (s .rows) (OfInterface (q .target)) target ≡ true)) → touched (s .rows) scope target ≡ true
           by-kind (inl six) = rw (zero-status, eq-eqb (q .kind) 6 six)
           by-kind (inr (nine, t)) =
               rw (zero-status, ap (λ (n : ℕ). eqb n 6) nine, eq-eqb (q .kind) 9 nine)
-              (sym (ap (λ (n : ℕ). touched (s .device .rows) (OfInterface n) target) (same-interface i a nine)) ∙ t)
+              (sym (ap (λ (n : ℕ). touched (s .rows) (OfInterface n) target) (same-interface i a nine)) ∙ t)
 
     abbrev query : Query
     query = Answered (e .request) (e .answers)
@@ -228,7 +224,7 @@ module _ (s : Session) (from : Side) (p : Content) (w : wireNumber (linkOf from 
     match-at o x = match-is s from p agreed r ∙ ap (matchIn (s .requests)) x
 
     -- a reply that passes is handed to the one request that it answers, or it is unsolicited and handed to none
-    pub reply-consumes : idsDiffer (s .requests .places) ≡ true → judged s e .number ≡ 0
+    pub reply-consumes : idsDiffer (s .requests) ≡ true → judged s e .number ≡ 0
         → ((i : ℕ) × Consumes s p (judged s e .session) i) ⊎ (Unsolicited (s .requests) p × (judged s e .session .requests ≡ s .requests))
     unfolding eventOf
     reply-consumes u z = go (lowest (s .requests) query) refl
@@ -240,10 +236,10 @@ module _ (s : Session) (from : Side) (p : Content) (w : wireNumber (linkOf from 
             record {
               answers = a;
               short = f .short;
-              only = λ j l v n. differ-when (s .requests .places) u j i l (f .within) v (f .live) (n ∙ sym (a .id));
+              only = λ j l v n. differ-when (s .requests) u j i v (f .live) (n ∙ sym (a .id));
               freed = f .freed;
               others = λ j n.
-                  cases (ends (s .device .rows) (scopeOf e (Matched i (placeAt (s .requests) i .request))) (placeAt (s .requests) j))
+                  cases (ends (s .rows) (scopeOf e (Matched i (placeAt (s .requests) i .request))) (placeAt (s .requests) j))
                   (λ x. inr (ends-too i a j x, f .others j n ∙ rw x))
                   (λ x. inl (f .others j n ∙ rw x));
               ended = λ j n x. f .others j n ∙ rw (too-ends i a j x);
@@ -255,7 +251,7 @@ module _ (s : Session) (from : Side) (p : Content) (w : wireNumber (linkOf from 
         go (some i) x = inl (i, handed i (reply-frees s e i (placeAt (s .requests) i .request) z (match-at (some i) x)))
 
     -- once it has been handed to a request, no request with its id waits
-    pub answered-absent : idsDiffer (s .requests .places) ≡ true → judged s e .number ≡ 0 → (Unsolicited (s .requests) p → ⊥) → NoLive (judged s e .session .requests) (p .id)
+    pub answered-absent : idsDiffer (s .requests) ≡ true → judged s e .number ≡ 0 → (Unsolicited (s .requests) p → ⊥) → NoLive (judged s e .session .requests) (p .id)
     unfolding eventOf
     answered-absent u z n = go (lowest (s .requests) query) refl
       where
@@ -287,7 +283,7 @@ module _ (s : Session) (from : Side) (p : Content) (w : wireNumber (linkOf from 
 
 -- ---- "Cancel passes with any id and changes nothing."
 
-pub cancel-passes : (s : Session) (id : ℕ) (fields : List Value) (rest : List ℕ) → s .device .present ≡ true
+pub cancel-passes : (s : Session) (id : ℕ) (fields : List Value) (rest : List ℕ) → s .head .present ≡ true
     → judged s (eventOf Guest (record { kind = 21; id = id; fields = fields; rest = rest })) ≡ record { session = s; number = 0 }
-unfolding judged numberFor nextFor matchOf eventOf meaningOf meanings
+unfolding judged numberFor nextFor applied matchOf eventOf meaningOf meanings
 cancel-passes s id fields rest h = rw h

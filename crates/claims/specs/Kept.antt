@@ -1,19 +1,18 @@
--- What every packet keeps of a session: the ids of live requests differ, rows 0 and 16 are control, the tables have their lengths,
--- a hello that has passed stays, and with both the shared set; and the start has what is kept.
--- A refused packet keeps all; of one that passes, each change of the requests and of the rows does, by the laws of each.
+-- What every packet keeps of a session: the ids of live requests differ, rows 0 and 16 are control, a hello that has passed stays, and with both
+-- the shared set, and so do whether it is stopped and what it holds; and the start is fit.
+-- A refused packet keeps all; of one that passes, each change of the requests, the rows and the head does, by the laws of each.
 -- Assumes nothing.
 use Prim.Native.Nat.{ℕ}
-use mathlib.Core.Bool.{Bool, true, false, cond, not, _&&_, false≢true, true≢false}
+use mathlib.Core.Bool.{Bool, true, false, cond, _&&_, false≢true, true≢false}
 use mathlib.Core.List.{List, [], _∷_}
 use mathlib.Core.Option.{Option, none, some}
 use mathlib.Core.Path.{_≡_, refl, _∙_}
 use native.Mathlib.Omega.{arith}
-use lib.ListN.{length, getD, drop}
-use lib.Dec.{eqb}
+use lib.ListN.{getD, drop}
+use lib.Dec.{eqb, ltb}
 use borrow.Author.Tests.{eqb-true}
 use borrow.Table.Steps.{cases}
 use Rattle.number.specs.Logic.{and-whole, fails}
-use Rattle.endpoint.specs.declared.Endpoint.{Endpoint}
 use Rattle.header.specs.declared.Side.{Side}
 use Rattle.header.specs.declared.Hello.{Hello}
 use Rattle.header.specs.declared.Hello.the-variants.{Awaited, Passed}
@@ -24,54 +23,32 @@ use Rattle.kinds.specs.Content.{Value, Content, shared, size, named}
 use Rattle.kinds.specs.Codec.{layout}
 use Rattle.kinds.specs.Number.{isGuest, badFields, badTail, badId, bad, isNone, orElse, wireNumber}
 use Rattle.kinds.specs.Laws.{isNone-left, first-good}
-use Rattle.rows.specs.Rows.{column}
-use Rattle.scan.specs.Scan.{eachAt}
-use Rattle.device.specs.declared.Device.{Device}
+use Rattle.packet.specs.Rows.{column}
+use Rattle.scan.specs.Scan.{tabulated}
+use Rattle.device.specs.declared.Head.{Head}
 use Rattle.device.specs.declared.Rows.{Rows}
-use Rattle.device.specs.declared.Scope.{Scope}
+use Rattle.device.specs.declared.Introduction.{Introduction}
+use Rattle.device.specs.declared.Introduction.the-variants.{Nothing as Unintroduced, One, Two}
 use Rattle.device.specs.declared.Scope.the-variants.{Everywhere}
-use Rattle.device.specs.Device.{startRows, startDevice, replaced, streamTo, closed, controlRows}
-use Rattle.device.specs.Laws.{start-control, start-length, closed-length, closed-control, stream-length, stream-control, replaced-length, replaced-control}
+use Rattle.device.specs.Device.{startHead, controlRows}
+use Rattle.device.specs.Laws.{start-control, closed-control, stream-control, replaced-control}
 use Rattle.requests.specs.declared.Requests.{Requests}
-use Rattle.requests.specs.declared.Query.the-variants.{Free, Id}
-use Rattle.requests.specs.Requests.{freePlace, freshRequests, taken, lowest, withPlace, released, idsDiffer}
-use Rattle.requests.specs.Laws.{with-place-length, released-length, fresh-length, fresh-differ, free-differ, released-differ, taken-differ}
+use Rattle.requests.specs.Requests.{isSome, Free, Id, lowest, withRequest, released, idsDiffer}
+use Rattle.requests.specs.Laws.{fresh-differ, released-differ, cleared-differ, taken-differ}
 use Rattle.kinds.specs.RoundTrip.{Clean, clean}
-use Rattle.events.specs.declared.Class.{Class}
-use Rattle.events.specs.declared.Class.the-variants.{Hello as HelloClass, Connect, Interfaces, Endpoints, Disconnect, Reset, Ack, Cancel, Filter, StartRequest, PlainRequest, StreamStatus, PlainReply, StreamData}
 use Rattle.events.specs.declared.Typed.{Typed}
 use Rattle.events.specs.declared.Typed.the-variants.{Untyped, OfEndpoint, OfMask}
-use Rattle.events.specs.declared.Event.{Event}
-use Rattle.events.specs.Event.{announcedIn, eventOf}
-use Rattle.checks.specs.declared.Match.{Match}
-use Rattle.checks.specs.declared.Match.the-variants.{Unmatched, Matched}
-use Rattle.checks.specs.Checks.{traitsOf, isSome, matchOf}
+use Rattle.events.specs.Event.{Event, announcedIn, eventOf}
+use Rattle.checks.specs.declared.Change.{Change}
+use Rattle.checks.specs.declared.Change.the-variants.{Nothing, Hello as Greet, Connect, Interfaces, Endpoints, Disconnect, Reset, Acknowledge, Take, Start, Answer}
+use Rattle.checks.specs.Checks.{traitsOf, matchOf}
+use Rattle.checks.specs.Change.{scopeOf, placeOr, placeIn, changeFor}
 use Rattle.session.specs.declared.Session.{Session}
-use Rattle.session.specs.Session.{freshSession, linkOf, isShared, unfit}
-use Rattle.session.specs.Step.{keptHello, isHello, streamBy, opens, scopeOf, replyRows, deviceAfter, takenAt, answered, nextFor, judged}
+use Rattle.session.specs.Session.{freshSession, linkOf, sharedIn, unfit}
+use Rattle.session.specs.Step.{keptHello, deviceTo, headAfter, streamBy, rowsAfter, requestsAfter, applied, nextFor, judged}
 use Rattle.claims.specs.Steps.{after, step, none-held, Role, leaving, asking, answering, ending, roleOf, requestsBy, Does, does, next-requests}
 
 -- ---- the requests
-
--- what holds of the requests before a packet and is kept by each change of them holds after it
-module _ (P : Requests → Type 0) (fresh : P freshRequests) (release : (t : Requests) (rows : Rows) (c : Scope) → P t → P (released t rows c)) (s : Session) (e : Event) where
-  requests-hold : P (s .requests) → ((i : ℕ) → P (withPlace (s .requests) i freePlace))
-      → (traitsOf (e .class) .request ≡ true → judged s e .number ≡ 0 → (i : ℕ) → P (withPlace (s .requests) i (taken (e .request)))) → P (after s e .requests)
-  requests-hold here free take = step s e (λ (x : Session). P (x .requests)) here (λ z. rw (next-requests s e (roleOf (e .class)) (does (e .class))) (by z (roleOf (e .class)) (does (e .class))))
-    where
-      takes : judged s e .number ≡ 0 → traitsOf (e .class) .request ≡ true → (o : Option ℕ) → P (takenAt (s .requests) (e .request) o)
-      takes z h none = here
-      takes z h (some i) = take h z i
-
-      answers : (m : Match) → P (answered (s .requests) (s .device .rows) e m)
-      answers Unmatched = here
-      answers (Matched i q) = release (withPlace (s .requests) i freePlace) (s .device .rows) (scopeOf e (Matched i q)) (free i)
-
-      by : judged s e .number ≡ 0 → (r : Role) → Does (e .class) r → P (requestsBy r s e (matchOf (s .requests) e))
-      by z leaving d = here
-      by z asking d = takes z (d .0) (lowest (s .requests) Free)
-      by z answering d = answers (matchOf (s .requests) e)
-      by z ending d = fresh
 
 -- a search that finds nothing
 unused : (o : Option ℕ) → isSome o ≡ false → o ≡ none
@@ -79,55 +56,60 @@ unused none h = refl
 unused (some i) h = absurd (true≢false h)
 
 -- where the ids of live requests differ, they still do
-pub kept-ids : (s : Session) (e : Event) → idsDiffer (s .requests .places) ≡ true → idsDiffer (after s e .requests .places) ≡ true
-kept-ids s e d =
-    requests-hold (λ (t : Requests). idsDiffer (t .places) ≡ true) fresh-differ (λ t rows c h. released-differ t h rows c) s e d (free-differ (s .requests) d)
-    (λ h z i. taken-differ (s .requests) d i (e .request) (unused (lowest (s .requests) (Id (e .request .id))) (fails (traitsOf (e .class) .request) _ (none-held s e z .unused) h)))
+pub kept-ids : (s : Session) (e : Event) → idsDiffer (s .requests) ≡ true → idsDiffer (after s e .requests) ≡ true
+kept-ids s e d = step s e (λ (x : Session). idsDiffer (x .requests) ≡ true) d (λ z. rw (next-requests s e (roleOf (e .class)) (does (e .class))) (by z (roleOf (e .class)) (does (e .class))))
+  where
+    t : Requests
+    t = s .requests
+
+    either : (b : Bool) (u : Requests) → idsDiffer u ≡ true → idsDiffer (cond b u t) ≡ true
+    either true u h = h
+    either false u h = d
+
+    takes : judged s e .number ≡ 0 → traitsOf (e .class) .request ≡ true → (o : Option ℕ) → lowest t Free ≡ o → idsDiffer (requestsAfter t (s .rows) (Take (placeOr o) (e .request))) ≡ true
+    takes z h none f = d
+    takes z h (some i) f =
+        either (ltb i 96) (withRequest t i (e .request))
+        (taken-differ t d i (e .request) f (unused (lowest t (Id (e .request .id))) (fails (traitsOf (e .class) .request) _ (none-held s e z .unused) h)))
+
+    by : judged s e .number ≡ 0 → (r : Role) → Does (e .class) r → idsDiffer (requestsBy r s e (matchOf t e)) ≡ true
+    by z leaving c = d
+    by z asking c = takes z (c .0) (lowest t Free) refl
+    by z answering c =
+        let m = matchOf t e in
+        either (ltb (placeIn m) 96) (released t (placeIn m) (s .rows) (scopeOf e m)) (released-differ t d (placeIn m) (s .rows) (scopeOf e m))
+    by z ending c = cleared-differ t d
 
 -- ---- the rows
 
--- what holds of the rows before a packet and is kept by each change of them holds after it
-module _ (P : Rows → Type 0) (start : P startRows) (close : (d : Rows) (c : Scope) → P d → P (closed d c)) (stream : (d : Rows) (x : Endpoint) (k : ℕ) (b : Bool) → P d → P (streamTo d x k b)) where
-  streams : (d : Rows) (t : Typed) (b : Bool) → P d → P (streamBy d t b)
-  streams d Untyped b h = h
-  streams d (OfEndpoint x k) b h = stream d x k b h
-  streams d (OfMask m k) b h = h
+stream-by-control : (rows : Rows) (x : Typed) (b : Bool) → controlRows (streamBy rows x b) ≡ controlRows rows
+stream-by-control rows Untyped b = refl
+stream-by-control rows (OfEndpoint x k) b = stream-control rows x k b
+stream-by-control rows (OfMask m k) b = refl
 
-  replies : (d : Rows) (e : Event) (m : Match) → P d → P (replyRows d e m)
-  replies d e m h = close (streamBy d (e .typed) (opens e m)) (scopeOf e m) (streams d (e .typed) (opens e m) h)
-
-  device-holds : (d : Device) (ack : Bool) (e : Event) (m : Match) → P (d .rows) → P (replaced (e .rows) (d .rows)) → (c : Class) → P (deviceAfter c d ack e m .rows)
-  unfolding startDevice
-  device-holds d ack e m h r HelloClass = h
-  device-holds d ack e m h r Connect = h
-  device-holds d ack e m h r Interfaces = h
-  device-holds d ack e m h r Endpoints = r
-  device-holds d ack e m h r Disconnect = start
-  device-holds d ack e m h r Reset = close (d .rows) Everywhere h
-  device-holds d ack e m h r Ack = h
-  device-holds d ack e m h r Cancel = h
-  device-holds d ack e m h r Filter = h
-  device-holds d ack e m h r StartRequest = streams (d .rows) (e .typed) true h
-  device-holds d ack e m h r PlainRequest = h
-  device-holds d ack e m h r StreamStatus = replies (d .rows) e m h
-  device-holds d ack e m h r PlainReply = replies (d .rows) e m h
-  device-holds d ack e m h r StreamData = h
-
-  rows-hold : (s : Session) (e : Event) → P (s .device .rows) → P (replaced (e .rows) (s .device .rows)) → P (after s e .device .rows)
-  unfolding nextFor
-  rows-hold s e h r = step s e (λ (x : Session). P (x .device .rows)) h (λ z. device-holds (s .device) (isShared s 3) e (matchOf (s .requests) e) h r (e .class))
+control-after : (rows new : Rows) → controlRows rows ≡ true → controlRows new ≡ true → (c : Change) → controlRows (rowsAfter rows c new) ≡ true
+control-after rows new h a Nothing = h
+control-after rows new h a (Greet word) = h
+control-after rows new h a Connect = h
+control-after rows new h a Interfaces = h
+control-after rows new h a Endpoints = replaced-control new rows ∙ a
+control-after rows new h a Disconnect = start-control
+control-after rows new h a Reset = closed-control rows Everywhere ∙ h
+control-after rows new h a Acknowledge = h
+control-after rows new h a (Take i q) = h
+control-after rows new h a (Start i q x) = stream-by-control rows x true ∙ h
+control-after rows new h a (Answer i x b scope) = closed-control (streamBy rows x b) scope ∙ stream-by-control rows x b ∙ h
 
 -- where rows 0 and 16 are control, they still are, if they are so in the rows that the packet announces
-pub kept-control : (s : Session) (e : Event) → controlRows (s .device .rows) ≡ true → controlRows (e .rows) ≡ true → controlRows (after s e .device .rows) ≡ true
-kept-control s e c a =
-    rows-hold (λ (d : Rows). controlRows d ≡ true) start-control (λ d x h. closed-control d x ∙ h) (λ d x k b h. stream-control d x k b ∙ h) s e c
-    (replaced-control (e .rows) (s .device .rows) a)
+pub kept-control : (s : Session) (e : Event) → controlRows (s .rows) ≡ true → controlRows (e .rows) ≡ true → controlRows (after s e .rows) ≡ true
+unfolding nextFor applied
+kept-control s e c a = step s e (λ (x : Session). controlRows (x .rows) ≡ true) c (λ z. control-after (s .rows) (e .rows) c a (changeFor (s .requests) e (matchOf (s .requests) e)))
 
 -- ---- the rows that a packet announces
 
 -- rows 0 and 16 of a table have the types that its column has there
 announced-control : (fs : List Field) (vs : List Value) → controlRows (announcedIn fs vs) ≡ (eqb (getD (column "type" fs vs) 0 0) 0 && eqb (getD (column "type" fs vs) 16 0) 0)
-unfolding startRows eachAt
+unfolding tabulated
 announced-control fs vs = refl
 
 -- those of an endpoint table that breaks no rule are control; a missing type is 0, which is control
@@ -157,73 +139,78 @@ event-control l p z = cases (eqb (p .kind) 5) (λ t. table (eqb-true (p .kind) 5
     table : p .kind ≡ 5 → (e : ℕ) → isNone (badFields (l .sender) (sharedSet l) e (layout (p .kind)) (p .fields) 0) ≡ true → controlRows (eventOf (l .sender) p .rows) ≡ true
     table five e b = rw five (table-control (l .sender) (sharedSet l) e (p .fields) (rw five at b))
 
--- ---- the lengths of the tables
-
-pub record Sized (s : Session) : Type 0 where
-  -- 96 places for requests
-  pub places : length (s .requests .places) ≡ 96
-  -- 32 rows of endpoints
-  pub rows : length (s .device .rows .rows) ≡ 32
-
--- the tables have their lengths, and keep them
-pub kept-lengths : (s : Session) (e : Event) → Sized s → Sized (after s e)
-kept-lengths s e z =
-    record {
-      places = requests-hold (λ (t : Requests). length (t .places) ≡ 96) fresh-length (λ t rows c h. released-length t rows c ∙ h) s e (z .places)
-          (λ i. with-place-length (s .requests) i freePlace ∙ z .places)
-          (λ h y i. with-place-length (s .requests) i (taken (e .request)) ∙ z .places);
-      rows = rows-hold (λ (d : Rows). length (d .rows) ≡ 32) start-length (λ d x h. closed-length d x ∙ h) (λ d x k b h. stream-length d x k b ∙ h) s e (z .rows)
-          (replaced-length (e .rows) (s .device .rows) ∙ z .rows);
-    }
-
--- ---- the hellos
+-- ---- the head
 
 -- a hello that has passed is not replaced
-keptHello-once : (b : Bool) (h : Hello) (word : ℕ) → passed h ≡ true → cond b (keptHello h word) h ≡ h
+keptHello-once : (b : Bool) (h : Hello) (word : ℕ) → passed h ≡ true → (cond b (keptHello h word) h ≡ h) × (cond b h (keptHello h word) ≡ h)
 keptHello-once true Awaited word p = absurd (false≢true p)
-keptHello-once true (Passed w) word p = refl
-keptHello-once false h word p = refl
+keptHello-once true (Passed w) word p = (refl, refl)
+keptHello-once false Awaited word p = absurd (false≢true p)
+keptHello-once false (Passed w) word p = (refl, refl)
+
+-- what is said of a head and the next one
+record HeadKept (h next : Head) : Type 0 where
+  guest : passed (h .guest) ≡ true → next .guest ≡ h .guest
+  host : passed (h .host) ≡ true → next .host ≡ h .host
+  stopped : next .stopped ≡ h .stopped
+  held : next .held ≡ h .held
+
+-- a change of the device's part alone
+device-alone : (h : Head) (present : Bool) (i : Introduction) (owed : Bool) → HeadKept h (deviceTo h present i owed)
+device-alone h present i owed = record { guest = λ p. refl; host = λ p. refl; stopped = refl; held = refl }
+
+head-same : (h : Head) → HeadKept h h
+head-same h = device-alone h (h .present) (h .introduction) (h .owed)
+
+head-after : (h : Head) (from : Side) (c : Change) → HeadKept h (headAfter h from c)
+head-after h from Nothing = head-same h
+head-after h from (Greet word) =
+    record {
+      guest = λ p. keptHello-once (isGuest from) (h .guest) word p .0;
+      host = λ p. keptHello-once (isGuest from) (h .host) word p .1;
+      stopped = refl;
+      held = refl;
+    }
+head-after h from Connect = device-alone h true (h .introduction) (h .owed)
+head-after h from Interfaces = device-alone h (h .present) (cond (h .present) (h .introduction) Two) (h .owed)
+head-after h from Endpoints = device-alone h (h .present) (cond (h .present) (h .introduction) One) (h .owed)
+head-after h from Disconnect = device-alone h false Unintroduced (sharedIn h 3)
+head-after h from Reset = head-same h
+head-after h from Acknowledge = device-alone h (h .present) (h .introduction) false
+head-after h from (Take i q) = head-same h
+head-after h from (Start i q x) = head-same h
+head-after h from (Answer i x b scope) = head-same h
+
+head-kept : (s : Session) (e : Event) → HeadKept (s .head) (after s e .head)
+unfolding nextFor applied
+head-kept s e = step s e (λ (x : Session). HeadKept (s .head) (x .head)) (head-same (s .head)) (λ z. head-after (s .head) (e .sender) (changeFor (s .requests) e (matchOf (s .requests) e)))
 
 pub record HellosKept (s : Session) (e : Event) : Type 0 where
   -- a hello that has passed stays as it is
-  pub guest : passed (s .guest) ≡ true → after s e .guest ≡ s .guest
-  pub host : passed (s .host) ≡ true → after s e .host ≡ s .host
+  pub guest : passed (s .head .guest) ≡ true → after s e .head .guest ≡ s .head .guest
+  pub host : passed (s .head .host) ≡ true → after s e .head .host ≡ s .head .host
 
 pub kept-hellos : (s : Session) (e : Event) → HellosKept s e
-unfolding nextFor
-kept-hellos s e =
-    record {
-      guest = λ p. step s e (λ (x : Session). x .guest ≡ s .guest) refl (λ z. keptHello-once (isHello (e .class) && isGuest (e .sender)) (s .guest) (e .word) p);
-      host = λ p. step s e (λ (x : Session). x .host ≡ s .host) refl (λ z. keptHello-once (isHello (e .class) && not (isGuest (e .sender))) (s .host) (e .word) p);
-    }
+kept-hellos s e = let k = head-kept s e in record { guest = k .guest; host = k .host }
 
 -- once both have passed, the shared set stays as it is
-pub kept-shared : (s : Session) (e : Event) (from : Side) → passed (s .guest) ≡ true → passed (s .host) ≡ true → sharedSet (linkOf from (after s e)) ≡ sharedSet (linkOf from s)
+pub kept-shared : (s : Session) (e : Event) (from : Side) → passed (s .head .guest) ≡ true → passed (s .head .host) ≡ true → sharedSet (linkOf from (after s e)) ≡ sharedSet (linkOf from s)
 kept-shared s e from g h = let k = kept-hellos s e in λ j. sharedSet (record { sender = from; guest = k .guest g j; host = k .host h j })
 
 -- ---- what no packet touches
 
 pub record PlainKept (s : Session) (e : Event) : Type 0 where
   -- whether it is stopped
-  pub stopped : after s e .stopped ≡ s .stopped
+  pub stopped : after s e .head .stopped ≡ s .head .stopped
   -- what each direction holds
-  pub held : after s e .held ≡ s .held
+  pub held : after s e .head .held ≡ s .head .held
 
 pub kept-plain : (s : Session) (e : Event) → PlainKept s e
-unfolding nextFor
-kept-plain s e =
-    record {
-      stopped = step s e (λ (x : Session). x .stopped ≡ s .stopped) refl (λ z. refl);
-      held = step s e (λ (x : Session). x .held ≡ s .held) refl (λ z. refl);
-    }
+kept-plain s e = let k = head-kept s e in record { stopped = k .stopped; held = k .held }
 
 -- ---- the start
 
--- a session at its start is fit, and its tables have their lengths
+-- a session at its start is fit
 pub start-fit : unfit freshSession ≡ false
-unfolding unfit freshSession startDevice
+unfolding unfit freshSession startHead
 start-fit = rw (fresh-differ, start-control)
-
-pub start-sized : Sized freshSession
-unfolding freshSession startDevice
-start-sized = record { places = fresh-length; rows = start-length }

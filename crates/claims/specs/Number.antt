@@ -15,15 +15,11 @@ use Rattle.kinds.specs.Content.{Content}
 use Rattle.kinds.specs.Number.{isGuest, wireNumber}
 use Rattle.device.specs.Device.{stateAt}
 use Rattle.requests.specs.declared.Requests.{Requests}
-use Rattle.requests.specs.declared.Query.the-variants.{Free, Id, Settling, Answered}
-use Rattle.requests.specs.declared.Place.{Place}
-use Rattle.requests.specs.Requests.{answers, lowest, placeAt}
+use Rattle.requests.specs.Requests.{isSome, Place, Free, Id, Settling, Answered, answers, lowest, placeAt, placesOf}
 use Rattle.scan.specs.Scan.{firstAt}
 use Rattle.kinds.specs.RoundTrip.{clean}
-use Rattle.events.specs.declared.Event.{Event}
-use Rattle.events.specs.Event.{field, eventOf}
-use Rattle.checks.specs.declared.Match.the-variants.{Unmatched}
-use Rattle.checks.specs.Checks.{traitsOf, isSome, mistypedBy, streamClosed, settling, matchIn, matchOf, isUnmatched, isUnsolicited, noSuchRequest, tooLong, Check, _when_, firstOf, numberFor, numberOf}
+use Rattle.events.specs.Event.{Event, field, eventOf}
+use Rattle.checks.specs.Checks.{Unmatched, traitsOf, mistypedBy, streamClosed, settling, matchIn, matchOf, isUnmatched, isUnsolicited, noSuchRequest, tooLong, Check, _when_, firstOf, numberFor, numberOf}
 use Rattle.session.specs.declared.Session.{Session}
 use Rattle.session.specs.Session.{linkOf}
 use Rattle.session.specs.Step.{judged}
@@ -39,12 +35,12 @@ longerThan t p (some i) = ltb (placeAt t i .request .length) (countOf p)
 -- each sentence with its number, in the order in which they are asked
 unfoldable pub checksBy : Session → Side → Content → List Check
 checksBy s from p =
-    25 when (not (among (0 ∷ 1 ∷ 4 ∷ 5 ∷ 22 ∷ 23 ∷ 24 ∷ []) (p .kind)) && not (s .device .present))
-    ∷ 27 when (among (1 ∷ 4 ∷ 5 ∷ []) (p .kind) && s .device .owed)
-    ∷ 26 when disordered (p .kind) (s .device)
-    ∷ 28 when mistypedBy (s .device .rows) (typedBy from p)
+    25 when (not (among (0 ∷ 1 ∷ 4 ∷ 5 ∷ 22 ∷ 23 ∷ 24 ∷ []) (p .kind)) && not (s .head .present))
+    ∷ 27 when (among (1 ∷ 4 ∷ 5 ∷ []) (p .kind) && s .head .owed)
+    ∷ 26 when disordered (p .kind) (s .head)
+    ∷ 28 when mistypedBy (s .rows) (typedBy from p)
     ∷ 29 when (isGuest from && leb 100 (p .kind) && leb (p .kind) 103 && isSome (lowest (s .requests) Settling))
-    ∷ 30 when (onStream from (p .kind) (inwardOf p) && not (stateAt (s .device .rows) (endpointNamed p) .streaming))
+    ∷ 30 when (onStream from (p .kind) (inwardOf p) && not (stateAt (s .rows) (endpointNamed p) .streaming))
     ∷ 31 when (isRequest from (p .kind) && isSome (lowest (s .requests) (Id (p .id))))
     ∷ 32 when (isRequest from (p .kind) && not (isSome (lowest (s .requests) Free)))
     ∷ 33 when (isReply from (p .kind) (inwardOf p) && not (isSome (answeredAt (s .requests) p)) && not (among (14 ∷ 17 ∷ 27 ∷ []) (p .kind) && eqb (p .id) 0 && eqb (field "status" p) 4))
@@ -65,14 +61,14 @@ module _ (s : Session) (from : Side) (p : Content) (a : factsOf (eventOf from p)
   abbrev e : Event
   e = eventOf from p
 
-  stream-by : streamClosed (s .device .rows) e ≡ (onStream from (p .kind) (inwardOf p) && not (stateAt (s .device .rows) (endpointNamed p) .streaming))
+  stream-by : streamClosed (s .rows) e ≡ (onStream from (p .kind) (inwardOf p) && not (stateAt (s .rows) (endpointNamed p) .streaming))
   stream-by = stream-is s from p a ∙ same-behind (onStream from (p .kind) (inwardOf p)) _ _ (λ h. ap not (stream-at s from p a h))
 
   module _ (r : isReply from (p .kind) (inwardOf p) ≡ true) where
     -- the search for a request that it answers
     found-by : lowest t (Answered (e .request) (e .answers)) ≡ answeredAt t p
     unfolding lowest
-    found-by = λ k. firstAt (λ (q : Place). q .live && answers-is s from p a r (q .request) k) 0 (t .places)
+    found-by = λ k. firstAt (λ (q : Place). q .live && answers-is s from p a r (q .request) k) 0 (placesOf t)
 
     match-by : matchOf t e ≡ matchIn t (answeredAt t p)
     match-by = match-is s from p a r ∙ ap (matchIn t) found-by
@@ -116,12 +112,12 @@ module _ (s : Session) (from : Side) (p : Content) (a : factsOf (eventOf from p)
           ap (tooLong e) m ∙ sym (ap (λ (b : Bool). b && longerThan t p (answeredAt t p)) r)
 
   -- check by check, the judge's list is this one
-  all-by : numberOf (s .device) (s .requests) e ≡ firstOf (checksBy s from p)
+  all-by : numberOf (s .head) (s .rows) (s .requests) e ≡ firstOf (checksBy s from p)
   unfolding numberOf numberFor checksBy eventOf
   all-by k =
       firstOf
-      (25 when (a k .device && not (s .device .present))
-      ∷ 27 when (a k .introduces && s .device .owed)
+      (25 when (a k .device && not (s .head .present))
+      ∷ 27 when (a k .introduces && s .head .owed)
       ∷ 26 when order-is s from p a k
       ∷ 28 when types-are s from p a k
       ∷ 29 when settling t e

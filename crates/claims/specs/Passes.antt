@@ -7,8 +7,6 @@ use mathlib.Core.List.{[], _∷_}
 use mathlib.Core.Logic.{_↔_, _⊎_, inl, inr}
 use mathlib.Core.Option.{Option, none, some, Option·none-ne-some}
 use mathlib.Core.Path.{_≡_, refl, sym, ap, subst, _∙_}
-use native.Mathlib.Nat.{zero-add}
-use lib.ListN.{length, getD}
 use lib.Dec.{eqb, leb}
 use borrow.Author.Tests.{eqb-true, eq-eqb, ne-eqb, leb-true, le-leb, le-ltb, ltb-false, not-true, not-false}
 use borrow.Table.Steps.{cases}
@@ -19,39 +17,33 @@ use Rattle.header.specs.declared.Side.the-variants.{Guest, Host}
 use Rattle.kinds.specs.Table.{Kind, kinds}
 use Rattle.kinds.specs.Content.{Content, find}
 use Rattle.kinds.specs.Number.{isGuest, sends}
-use Rattle.scan.specs.Scan.{firstAt}
-use Rattle.scan.specs.Laws.{first-found, first-some, any-absent, any-not}
 use Rattle.device.specs.declared.Rows.{Rows}
 use Rattle.device.specs.declared.Introduction.{Introduction}
 use Rattle.device.specs.declared.Introduction.the-variants.{Nothing, One, Two}
-use Rattle.device.specs.declared.Device.{Device}
-use Rattle.device.specs.Device.{bulk, closedRow, stateAt, mistyped, maskMistyped}
+use Rattle.device.specs.declared.Head.{Head}
+use Rattle.device.specs.Device.{bulk, rowAt, stateAt}
+use Rattle.device.specs.Laws.{mask-absent, mask-none}
 use Rattle.requests.specs.declared.Request.{Request}
 use Rattle.requests.specs.declared.Requests.{Requests}
-use Rattle.requests.specs.declared.Query.{Query}
-use Rattle.requests.specs.declared.Query.the-variants.{Free, Id, Settling, Answered}
-use Rattle.requests.specs.Requests.{freePlace, meets, answers, lowest, placeAt, idsDiffer}
-use Rattle.requests.specs.Laws.{differ-when}
+use Rattle.requests.specs.Requests.{isSome, Query, Free, Id, Settling, Answered, meets, answers, lowest, placeAt, idsDiffer}
+use Rattle.requests.specs.Laws.{lowest-found, lowest-some, lowest-none, differ-when}
 use Rattle.events.specs.declared.Typed.{Typed}
 use Rattle.events.specs.declared.Typed.the-variants.{Untyped}
-use Rattle.events.specs.declared.Event.{Event}
-use Rattle.events.specs.Event.{field, eventOf}
-use Rattle.checks.specs.declared.Match.{Match}
-use Rattle.checks.specs.declared.Match.the-variants.{Unmatched, Matched}
-use Rattle.checks.specs.Checks.{traitsOf, isSome, noDevice, ackOwed, isBegun, isDone, outOfOrder, mistypedBy, wrongType, isTransfer, settling, isOpen, streamClosed, idInUse, isFull, matchIn, matchOf, isUnsolicited, noSuchRequest, tooLong, numberFor, numberOf}
+use Rattle.events.specs.Event.{Event, field, eventOf, isTransfer}
+use Rattle.checks.specs.Checks.{Match, Unmatched, Matched, traitsOf, noDevice, ackOwed, isBegun, isDone, outOfOrder, mistypedBy, wrongType, settling, isOpen, streamClosed, idInUse, isFull, matchIn, matchOf, isUnsolicited, noSuchRequest, tooLong, numberFor, numberOf}
 use Rattle.session.specs.declared.Session.{Session}
 use Rattle.claims.specs.Allowed.{among, oneOf, isRequest, isReply, answersKind, carriesTarget, wants, onStream, endpointNamed, inwardOf, replyTarget, countOf, AnsweredBy, Unsolicited, Allowed}
 use Rattle.claims.specs.Agree.{factsOf, factsBy, disordered, rowBy, typedBy, answersBy, agrees}
 
 -- ---- the number is 0 exactly where no check holds
 
-pub record NoneHolds (d : Device) (t : Requests) (e : Event) (m : Match) : Type 0 where
-  pub device : noDevice d e ≡ false
-  pub ack : ackOwed d e ≡ false
-  pub order : outOfOrder d (e .class) ≡ false
-  pub type : wrongType (d .rows) e ≡ false
+pub record NoneHolds (h : Head) (rows : Rows) (t : Requests) (e : Event) (m : Match) : Type 0 where
+  pub device : noDevice h e ≡ false
+  pub ack : ackOwed h e ≡ false
+  pub order : outOfOrder h (e .class) ≡ false
+  pub type : wrongType rows e ≡ false
   pub settled : settling t e ≡ false
-  pub stream : streamClosed (d .rows) e ≡ false
+  pub stream : streamClosed rows e ≡ false
   pub unused : idInUse t e ≡ false
   pub room : isFull t e ≡ false
   pub matched : noSuchRequest e m ≡ false
@@ -66,9 +58,9 @@ skip : (n : ℕ) (b : Bool) (rest : ℕ) → b ≡ false → rest ≡ 0 → cond
 skip n true rest e f = absurd (true≢false e)
 skip n false rest e f = f
 
-pub none-holds : (d : Device) (t : Requests) (e : Event) (m : Match) → numberFor d t e m ≡ 0 → NoneHolds d t e m
+pub none-holds : (h : Head) (rows : Rows) (t : Requests) (e : Event) (m : Match) → numberFor h rows t e m ≡ 0 → NoneHolds h rows t e m
 unfolding numberFor
-none-holds d t e m z =
+none-holds h rows t e m z =
     let a = next 25 _ _ refl z in
     let b = next 27 _ _ refl (a .1) in
     let c = next 26 _ _ refl (b .1) in
@@ -81,9 +73,9 @@ none-holds d t e m z =
     let o = next 34 _ _ refl (l .1) in
     record { device = a .0; ack = b .0; order = c .0; type = f .0; settled = g .0; stream = i .0; unused = j .0; room = k .0; matched = l .0; short = o .0 }
 
-pub holds-none : (d : Device) (t : Requests) (e : Event) (m : Match) → NoneHolds d t e m → numberFor d t e m ≡ 0
+pub holds-none : (h : Head) (rows : Rows) (t : Requests) (e : Event) (m : Match) → NoneHolds h rows t e m → numberFor h rows t e m ≡ 0
 unfolding numberFor
-holds-none d t e m q =
+holds-none h rows t e m q =
     skip 25 _ _ (q .device)
     (skip 27 _ _ (q .ack)
     (skip 26 _ _ (q .order)
@@ -98,32 +90,20 @@ holds-none d t e m q =
 -- ---- what a search says of the places
 
 module _ (t : Requests) (q : Query) where
-  none-when : isSome (lowest t q) ≡ false → (i : ℕ) → i < length (t .places) → meets q (placeAt t i) ≡ false
-  unfolding lowest
-  none-when h i l = cases (meets q (placeAt t i)) (λ e. absurd (true≢false (sym (found e) ∙ h))) (λ e. e)
-    where
-      found : meets q (placeAt t i) ≡ true → isSome (firstAt (meets q) 0 (t .places)) ≡ true
-      found e = ap isSome (first-some (meets q) (t .places) freePlace i l e .1)
+  none-when : isSome (lowest t q) ≡ false → (i : ℕ) → i < 96 → meets q (placeAt t i) ≡ false
+  none-when h i l = cases (meets q (placeAt t i)) (λ e. absurd (true≢false (sym (ap isSome (lowest-some t q i l e .1)) ∙ h))) (λ e. e)
 
-  when-none : ((i : ℕ) → i < length (t .places) → meets q (placeAt t i) ≡ false) → isSome (lowest t q) ≡ false
-  unfolding lowest
-  when-none f = go (firstAt (meets q) 0 (t .places)) refl
-    where
-      go : (o : Option ℕ) → firstAt (meets q) 0 (t .places) ≡ o → isSome o ≡ false
-      go none e = refl
-      go (some i) e =
-          let r = first-found (meets q) (t .places) i freePlace e in
-          absurd (true≢false (sym (r .1) ∙ f i (r .0)))
+  when-none : ((i : ℕ) → i < 96 → meets q (placeAt t i) ≡ false) → isSome (lowest t q) ≡ false
+  when-none f = ap isSome (lowest-none t q f)
 
-  some-at : isSome (lowest t q) ≡ true → (i : ℕ) × (i < length (t .places)) × (meets q (placeAt t i) ≡ true)
-  unfolding lowest
-  some-at h = go (firstAt (meets q) 0 (t .places)) refl h
+  some-at : isSome (lowest t q) ≡ true → (i : ℕ) × (i < 96) × (meets q (placeAt t i) ≡ true)
+  some-at h = go (lowest t q) refl h
     where
-      go : (o : Option ℕ) → firstAt (meets q) 0 (t .places) ≡ o → isSome o ≡ true → (i : ℕ) × (i < length (t .places)) × (meets q (placeAt t i) ≡ true)
+      go : (o : Option ℕ) → lowest t q ≡ o → isSome o ≡ true → (i : ℕ) × (i < 96) × (meets q (placeAt t i) ≡ true)
       go none e f = absurd (false≢true f)
-      go (some i) e f = let r = first-found (meets q) (t .places) i freePlace e in (i, r .0, r .1)
+      go (some i) e f = let r = lowest-found t q i e in (i, r .0, r .1)
 
-  pub at-some : (i : ℕ) → i < length (t .places) → meets q (placeAt t i) ≡ true → isSome (lowest t q) ≡ true
+  pub at-some : (i : ℕ) → i < 96 → meets q (placeAt t i) ≡ true → isSome (lowest t q) ≡ true
   at-some i l e = cases (isSome (lowest t q)) (λ h. h) (λ h. absurd (true≢false (sym e ∙ none-when h i l)))
 
 -- ---- kinds
@@ -191,8 +171,11 @@ open-is rows false t = refl
 -- ---- each check and its relation, for a packet whose event the lists describe
 
 module _ (s : Session) (from : Side) (p : Content) (a : factsOf (eventOf from p) ≡ factsBy from p) where
-  abbrev pub d : Device
-  d = s .device
+  abbrev pub head : Head
+  head = s .head
+
+  abbrev pub rows : Rows
+  rows = s .rows
 
   abbrev pub t : Requests
   t = s .requests
@@ -201,93 +184,91 @@ module _ (s : Session) (from : Side) (p : Content) (a : factsOf (eventOf from p)
   e = eventOf from p
 
   -- 25
-  device-to : noDevice d e ≡ false → among (0 ∷ 1 ∷ 4 ∷ 5 ∷ 22 ∷ 23 ∷ 24 ∷ []) (p .kind) ≡ false → d .present ≡ true
-  device-to h n = not-false (d .present) (fails (traitsOf (e .class) .device) (not (d .present)) h ((λ i. a i .device) ∙ true-not _ n))
+  device-to : noDevice head e ≡ false → among (0 ∷ 1 ∷ 4 ∷ 5 ∷ 22 ∷ 23 ∷ 24 ∷ []) (p .kind) ≡ false → head .present ≡ true
+  device-to h n = not-false (head .present) (fails (traitsOf (e .class) .device) (not (head .present)) h ((λ i. a i .device) ∙ true-not _ n))
 
-  device-from : (among (0 ∷ 1 ∷ 4 ∷ 5 ∷ 22 ∷ 23 ∷ 24 ∷ []) (p .kind) ≡ false → d .present ≡ true) → noDevice d e ≡ false
-  device-from f = failing (traitsOf (e .class) .device) (not (d .present)) (λ h. false-not (d .present) (f (not-true _ (sym (λ i. a i .device) ∙ h))))
+  device-from : (among (0 ∷ 1 ∷ 4 ∷ 5 ∷ 22 ∷ 23 ∷ 24 ∷ []) (p .kind) ≡ false → head .present ≡ true) → noDevice head e ≡ false
+  device-from f = failing (traitsOf (e .class) .device) (not (head .present)) (λ h. false-not (head .present) (f (not-true _ (sym (λ i. a i .device) ∙ h))))
 
   -- 27
-  ack-to : ackOwed d e ≡ false → among (1 ∷ 4 ∷ 5 ∷ []) (p .kind) ≡ true → d .owed ≡ false
-  ack-to h n = fails (traitsOf (e .class) .introduces) (d .owed) h ((λ i. a i .introduces) ∙ n)
+  ack-to : ackOwed head e ≡ false → among (1 ∷ 4 ∷ 5 ∷ []) (p .kind) ≡ true → head .owed ≡ false
+  ack-to h n = fails (traitsOf (e .class) .introduces) (head .owed) h ((λ i. a i .introduces) ∙ n)
 
-  ack-from : (among (1 ∷ 4 ∷ 5 ∷ []) (p .kind) ≡ true → d .owed ≡ false) → ackOwed d e ≡ false
-  ack-from f = failing (traitsOf (e .class) .introduces) (d .owed) (λ h. f (sym (λ i. a i .introduces) ∙ h))
+  ack-from : (among (1 ∷ 4 ∷ 5 ∷ []) (p .kind) ≡ true → head .owed ≡ false) → ackOwed head e ≡ false
+  ack-from f = failing (traitsOf (e .class) .introduces) (head .owed) (λ h. f (sym (λ i. a i .introduces) ∙ h))
 
   -- 26
-  pub order-is : outOfOrder d (e .class) ≡ disordered (p .kind) d
-  order-is i = a i .order d
+  pub order-is : outOfOrder head (e .class) ≡ disordered (p .kind) head
+  order-is i = a i .order head
 
-  order-at : (n : ℕ) → outOfOrder d (e .class) ≡ false → p .kind ≡ n → disordered n d ≡ false
-  order-at n h k = sym (ap (λ (m : ℕ). disordered m d) k) ∙ sym order-is ∙ h
+  order-at : (n : ℕ) → outOfOrder head (e .class) ≡ false → p .kind ≡ n → disordered n head ≡ false
+  order-at n h k = sym (ap (λ (m : ℕ). disordered m head) k) ∙ sym order-is ∙ h
 
-  connect-to : outOfOrder d (e .class) ≡ false → p .kind ≡ 1 → (d .present ≡ false) × (d .introduction ≡ Two)
+  connect-to : outOfOrder head (e .class) ≡ false → p .kind ≡ 1 → (head .present ≡ false) × (head .introduction ≡ Two)
   connect-to h k =
-      let r = or-parts (d .present) (not (isDone (d .introduction))) (order-at 1 h k) in
-      (r .0, done (d .introduction) (not-false (isDone (d .introduction)) (r .1)))
+      let r = or-parts (head .present) (not (isDone (head .introduction))) (order-at 1 h k) in
+      (r .0, done (head .introduction) (not-false (isDone (head .introduction)) (r .1)))
 
-  interfaces-to : outOfOrder d (e .class) ≡ false → p .kind ≡ 4 → d .present ≡ false → d .introduction ≡ Nothing → ⊥
+  interfaces-to : outOfOrder head (e .class) ≡ false → p .kind ≡ 4 → head .present ≡ false → head .introduction ≡ Nothing → ⊥
   interfaces-to h k n i =
-      let r : isBegun (d .introduction) ≡ true = not-false (isBegun (d .introduction)) (fails (not (d .present)) (not (isBegun (d .introduction))) (order-at 4 h k) (true-not (d .present) n)) in
+      let r : isBegun (head .introduction) ≡ true = not-false (isBegun (head .introduction)) (fails (not (head .present)) (not (isBegun (head .introduction))) (order-at 4 h k) (true-not (head .present) n)) in
       false≢true (sym (ap isBegun i) ∙ r)
 
-  acknowledgement-to : outOfOrder d (e .class) ≡ false → p .kind ≡ 24 → d .owed ≡ true
-  acknowledgement-to h k = not-false (d .owed) (order-at 24 h k)
+  acknowledgement-to : outOfOrder head (e .class) ≡ false → p .kind ≡ 24 → head .owed ≡ true
+  acknowledgement-to h k = not-false (head .owed) (order-at 24 h k)
 
-  order-from : (p .kind ≡ 1 → (d .present ≡ false) × (d .introduction ≡ Two)) → (p .kind ≡ 4 → d .present ≡ false → d .introduction ≡ Nothing → ⊥) → (p .kind ≡ 24 → d .owed ≡ true) → outOfOrder d (e .class) ≡ false
+  order-from : (p .kind ≡ 1 → (head .present ≡ false) × (head .introduction ≡ Two)) → (p .kind ≡ 4 → head .present ≡ false → head .introduction ≡ Nothing → ⊥) → (p .kind ≡ 24 → head .owed ≡ true) → outOfOrder head (e .class) ≡ false
   order-from f g h = order-is ∙ cases (eqb (p .kind) 1) first (λ x. cases (eqb (p .kind) 4) (second x) (λ y. cases (eqb (p .kind) 24) (third x y) (λ z. rw (x, y, z))))
     where
-      first : eqb (p .kind) 1 ≡ true → disordered (p .kind) d ≡ false
+      first : eqb (p .kind) 1 ≡ true → disordered (p .kind) head ≡ false
       first x =
           let r = f (eqb-true (p .kind) 1 x) in
-          rw x (or-none (d .present) (not (isDone (d .introduction))) (r .0) (false-not (isDone (d .introduction)) (ap isDone (r .1))))
+          rw x (or-none (head .present) (not (isDone (head .introduction))) (r .0) (false-not (isDone (head .introduction)) (ap isDone (r .1))))
 
-      second : eqb (p .kind) 1 ≡ false → eqb (p .kind) 4 ≡ true → disordered (p .kind) d ≡ false
+      second : eqb (p .kind) 1 ≡ false → eqb (p .kind) 4 ≡ true → disordered (p .kind) head ≡ false
       second x y =
-          rw (x, y) (failing (not (d .present)) (not (isBegun (d .introduction))) (λ n. false-not (isBegun (d .introduction)) (begun (d .introduction) (g (eqb-true (p .kind) 4 y) (not-true (d .present) n)))))
+          rw (x, y) (failing (not (head .present)) (not (isBegun (head .introduction))) (λ n. false-not (isBegun (head .introduction)) (begun (head .introduction) (g (eqb-true (p .kind) 4 y) (not-true (head .present) n)))))
 
-      third : eqb (p .kind) 1 ≡ false → eqb (p .kind) 4 ≡ false → eqb (p .kind) 24 ≡ true → disordered (p .kind) d ≡ false
-      third x y z = rw (x, y, z) (false-not (d .owed) (h (eqb-true (p .kind) 24 z)))
+      third : eqb (p .kind) 1 ≡ false → eqb (p .kind) 4 ≡ false → eqb (p .kind) 24 ≡ true → disordered (p .kind) head ≡ false
+      third x y z = rw (x, y, z) (false-not (head .owed) (h (eqb-true (p .kind) 24 z)))
 
   -- 28
-  pub types-are : wrongType (d .rows) e ≡ mistypedBy (d .rows) (typedBy from p)
-  types-are = typed-is (d .rows) (traitsOf (e .class) .typed) (e .typed) ∙ (λ i. mistypedBy (d .rows) (a i .typed))
+  pub types-are : wrongType rows e ≡ mistypedBy rows (typedBy from p)
+  types-are = typed-is rows (traitsOf (e .class) .typed) (e .typed) ∙ (λ i. mistypedBy rows (a i .typed))
 
-  type-to : wrongType (d .rows) e ≡ false → (k : ℕ) → wants from (p .kind) (inwardOf p) ≡ some k → stateAt (d .rows) (endpointNamed p) .ty ≡ k
+  type-to : wrongType rows e ≡ false → (k : ℕ) → wants from (p .kind) (inwardOf p) ≡ some k → stateAt rows (endpointNamed p) .ty ≡ k
   type-to h k w = cases (among (18 ∷ 19 ∷ []) (p .kind)) masked plain
     where
-      masked : among (18 ∷ 19 ∷ []) (p .kind) ≡ true → stateAt (d .rows) (endpointNamed p) .ty ≡ k
+      masked : among (18 ∷ 19 ∷ []) (p .kind) ≡ true → stateAt rows (endpointNamed p) .ty ≡ k
       masked m = absurd (Option·none-ne-some k (sym (mask-wants from (p .kind) (inwardOf p) m) ∙ w))
 
-      plain : among (18 ∷ 19 ∷ []) (p .kind) ≡ false → stateAt (d .rows) (endpointNamed p) .ty ≡ k
-      plain m = eqb-true (stateAt (d .rows) (endpointNamed p) .ty) k (not-false _ (sym (rw (m, w)) ∙ sym types-are ∙ h))
+      plain : among (18 ∷ 19 ∷ []) (p .kind) ≡ false → stateAt rows (endpointNamed p) .ty ≡ k
+      plain m = eqb-true (stateAt rows (endpointNamed p) .ty) k (not-false _ (sym (rw (m, w)) ∙ sym types-are ∙ h))
 
-  types-to : wrongType (d .rows) e ≡ false → among (18 ∷ 19 ∷ []) (p .kind) ≡ true → (r : ℕ) → r < length (d .rows .rows) → hasBit (field "mask" p) r ≡ true → getD (d .rows .rows) r (closedRow 0) .ty ≡ bulk
+  types-to : wrongType rows e ≡ false → among (18 ∷ 19 ∷ []) (p .kind) ≡ true → (r : ℕ) → r < 32 → hasBit (field "mask" p) r ≡ true → rowAt rows r .ty ≡ bulk
   types-to h m r l b =
-      let none-such : maskMistyped (d .rows) (field "mask" p) bulk ≡ false = sym (rw m) ∙ sym types-are ∙ h in
-      let here : mistyped (field "mask" p) bulk r (getD (d .rows .rows) r (closedRow 0)) ≡ false = ap (λ (n : ℕ). mistyped (field "mask" p) bulk n (getD (d .rows .rows) r (closedRow 0))) (sym (zero-add r)) ∙ any-absent (mistyped (field "mask" p) bulk) (d .rows .rows) 0 (closedRow 0) none-such r l in
-      eqb-true _ bulk (not-false _ (fails (hasBit (field "mask" p) r) _ here b))
+      mask-absent rows (field "mask" p) bulk (sym (rw m) ∙ sym types-are ∙ h) r l b
 
-  type-from : ((k : ℕ) → wants from (p .kind) (inwardOf p) ≡ some k → stateAt (d .rows) (endpointNamed p) .ty ≡ k)
-      → (among (18 ∷ 19 ∷ []) (p .kind) ≡ true → (r : ℕ) → r < length (d .rows .rows) → hasBit (field "mask" p) r ≡ true → getD (d .rows .rows) r (closedRow 0) .ty ≡ bulk)
-      → wrongType (d .rows) e ≡ false
+  type-from : ((k : ℕ) → wants from (p .kind) (inwardOf p) ≡ some k → stateAt rows (endpointNamed p) .ty ≡ k)
+      → (among (18 ∷ 19 ∷ []) (p .kind) ≡ true → (r : ℕ) → r < 32 → hasBit (field "mask" p) r ≡ true → rowAt rows r .ty ≡ bulk)
+      → wrongType rows e ≡ false
   type-from f g = types-are ∙ cases (among (18 ∷ 19 ∷ []) (p .kind)) masked (λ m. rw m (wanted (wants from (p .kind) (inwardOf p)) refl))
     where
-      masked : among (18 ∷ 19 ∷ []) (p .kind) ≡ true → mistypedBy (d .rows) (typedBy from p) ≡ false
-      masked m = rw m (any-not (mistyped (field "mask" p) bulk) (d .rows .rows) 0 (closedRow 0) (λ k l. rw (zero-add k) (failing (hasBit (field "mask" p) k) _ (λ b. false-not _ (eq-eqb _ bulk (g m k l b))))))
+      masked : among (18 ∷ 19 ∷ []) (p .kind) ≡ true → mistypedBy rows (typedBy from p) ≡ false
+      masked m = rw m (mask-none rows (field "mask" p) bulk (g m))
 
-      wanted : (o : Option ℕ) → wants from (p .kind) (inwardOf p) ≡ o → mistypedBy (d .rows) (rowBy o p) ≡ false
+      wanted : (o : Option ℕ) → wants from (p .kind) (inwardOf p) ≡ o → mistypedBy rows (rowBy o p) ≡ false
       wanted none w = refl
       wanted (some k) w = false-not _ (eq-eqb _ k (f k w))
 
   -- 29
-  settled-to : settling t e ≡ false → isGuest from ≡ true → 100 ≤ p .kind → p .kind ≤ 103 → (i : ℕ) → i < length (t .places) → placeAt t i .live ≡ true → oneOf 6 9 (placeAt t i .request .kind) ≡ false
+  settled-to : settling t e ≡ false → isGuest from ≡ true → 100 ≤ p .kind → p .kind ≤ 103 → (i : ℕ) → i < 96 → placeAt t i .live ≡ true → oneOf 6 9 (placeAt t i .request .kind) ≡ false
   unfolding eventOf
   settled-to h g l u i n v =
       let w : isTransfer e ≡ true = and-whole _ _ (and-whole _ _ g (le-leb 100 (p .kind) l)) (le-leb (p .kind) 103 u) in
       fails (placeAt t i .live) _ (none-when t Settling (fails (isTransfer e) _ h w) i n) v
 
-  settled-from : (isGuest from ≡ true → 100 ≤ p .kind → p .kind ≤ 103 → (i : ℕ) → i < length (t .places) → placeAt t i .live ≡ true → oneOf 6 9 (placeAt t i .request .kind) ≡ false) → settling t e ≡ false
+  settled-from : (isGuest from ≡ true → 100 ≤ p .kind → p .kind ≤ 103 → (i : ℕ) → i < 96 → placeAt t i .live ≡ true → oneOf 6 9 (placeAt t i .request .kind) ≡ false) → settling t e ≡ false
   unfolding eventOf
   settled-from f = failing (isTransfer e) _ waits
     where
@@ -298,40 +279,40 @@ module _ (s : Session) (from : Side) (p : Content) (a : factsOf (eventOf from p)
           when-none t Settling (λ i n. failing (placeAt t i .live) _ (λ v. f (q .0) (leb-true 100 (p .kind) (q .1)) (leb-true (p .kind) 103 (r .1)) i n v))
 
   -- 30
-  pub stream-is : streamClosed (d .rows) e ≡ (onStream from (p .kind) (inwardOf p) && not (isOpen (d .rows) (cond (onStream from (p .kind) (inwardOf p)) (rowBy (wants from (p .kind) (inwardOf p)) p) Untyped)))
-  stream-is = open-is (d .rows) (traitsOf (e .class) .streamed) (e .typed) ∙ (λ i. a i .streamed && not (isOpen (d .rows) (a i .stream)))
+  pub stream-is : streamClosed rows e ≡ (onStream from (p .kind) (inwardOf p) && not (isOpen rows (cond (onStream from (p .kind) (inwardOf p)) (rowBy (wants from (p .kind) (inwardOf p)) p) Untyped)))
+  stream-is = open-is rows (traitsOf (e .class) .streamed) (e .typed) ∙ (λ i. a i .streamed && not (isOpen rows (a i .stream)))
 
   -- of what comes on a stream, the stream is that of its endpoint's row
-  pub stream-at : onStream from (p .kind) (inwardOf p) ≡ true → isOpen (d .rows) (cond (onStream from (p .kind) (inwardOf p)) (rowBy (wants from (p .kind) (inwardOf p)) p) Untyped) ≡ stateAt (d .rows) (endpointNamed p) .streaming
+  pub stream-at : onStream from (p .kind) (inwardOf p) ≡ true → isOpen rows (cond (onStream from (p .kind) (inwardOf p)) (rowBy (wants from (p .kind) (inwardOf p)) p) Untyped) ≡ stateAt rows (endpointNamed p) .streaming
   stream-at h = let w = stream-wants from (p .kind) (inwardOf p) h in rw (h, w .1)
 
-  stream-to : streamClosed (d .rows) e ≡ false → onStream from (p .kind) (inwardOf p) ≡ true → stateAt (d .rows) (endpointNamed p) .streaming ≡ true
+  stream-to : streamClosed rows e ≡ false → onStream from (p .kind) (inwardOf p) ≡ true → stateAt rows (endpointNamed p) .streaming ≡ true
   stream-to h o = sym (stream-at o) ∙ not-false _ (fails (onStream from (p .kind) (inwardOf p)) _ (sym stream-is ∙ h) o)
 
-  stream-from : (onStream from (p .kind) (inwardOf p) ≡ true → stateAt (d .rows) (endpointNamed p) .streaming ≡ true) → streamClosed (d .rows) e ≡ false
+  stream-from : (onStream from (p .kind) (inwardOf p) ≡ true → stateAt rows (endpointNamed p) .streaming ≡ true) → streamClosed rows e ≡ false
   stream-from f = stream-is ∙ failing (onStream from (p .kind) (inwardOf p)) _ (λ o. false-not _ (stream-at o ∙ f o))
 
   -- 31
-  unused-to : idInUse t e ≡ false → isRequest from (p .kind) ≡ true → (i : ℕ) → i < length (t .places) → placeAt t i .live ≡ true → placeAt t i .request .id ≡ p .id → ⊥
+  unused-to : idInUse t e ≡ false → isRequest from (p .kind) ≡ true → (i : ℕ) → i < 96 → placeAt t i .live ≡ true → placeAt t i .request .id ≡ p .id → ⊥
   unfolding eventOf
   unused-to h r i n v q =
       let z : isSome (lowest t (Id (p .id))) ≡ false = fails (traitsOf (e .class) .request) _ h ((λ j. a j .request) ∙ r) in
       let x : eqb (placeAt t i .request .id) (p .id) ≡ false = fails (placeAt t i .live) _ (none-when t (Id (p .id)) z i n) v in
       false≢true (sym x ∙ eq-eqb (placeAt t i .request .id) (p .id) q)
 
-  unused-from : (isRequest from (p .kind) ≡ true → (i : ℕ) → i < length (t .places) → placeAt t i .live ≡ true → placeAt t i .request .id ≡ p .id → ⊥) → idInUse t e ≡ false
+  unused-from : (isRequest from (p .kind) ≡ true → (i : ℕ) → i < 96 → placeAt t i .live ≡ true → placeAt t i .request .id ≡ p .id → ⊥) → idInUse t e ≡ false
   unfolding eventOf
   unused-from f =
       failing (traitsOf (e .class) .request) _
       (λ h. when-none t (Id (p .id)) (λ i n. failing (placeAt t i .live) _ (λ v. ne-eqb (placeAt t i .request .id) (p .id) (f (sym (λ j. a j .request) ∙ h) i n v))))
 
   -- 32
-  room-to : isFull t e ≡ false → isRequest from (p .kind) ≡ true → (i : ℕ) × (i < length (t .places)) × (placeAt t i .live ≡ false)
+  room-to : isFull t e ≡ false → isRequest from (p .kind) ≡ true → (i : ℕ) × (i < 96) × (placeAt t i .live ≡ false)
   room-to h r =
       let f = some-at t Free (not-false _ (fails (traitsOf (e .class) .request) _ h ((λ j. a j .request) ∙ r))) in
       (f .0, f .1, not-true _ (f .2))
 
-  room-from : (isRequest from (p .kind) ≡ true → (i : ℕ) × (i < length (t .places)) × (placeAt t i .live ≡ false)) → isFull t e ≡ false
+  room-from : (isRequest from (p .kind) ≡ true → (i : ℕ) × (i < 96) × (placeAt t i .live ≡ false)) → isFull t e ≡ false
   room-from f =
       failing (traitsOf (e .class) .request) _
       (λ h. let r = f (sym (λ j. a j .request) ∙ h) in false-not _ (at-some t Free (r .0) (r .1) (true-not _ (r .2))))
@@ -349,7 +330,7 @@ module _ (s : Session) (from : Side) (p : Content) (a : factsOf (eventOf from p)
     pub answers-is : (q : Request) → answers (e .request) (e .answers) q ≡ answersBy p q
     answers-is q = sym (rw replies) ∙ (λ i. a i .answers q) ∙ rw r
 
-    pub answers-to : (i : ℕ) → i < length (t .places) → meets query (placeAt t i) ≡ true → AnsweredBy t p i
+    pub answers-to : (i : ℕ) → i < 96 → meets query (placeAt t i) ≡ true → AnsweredBy t p i
     answers-to i n m =
         let q = placeAt t i .request in
         let v = and-parts (placeAt t i .live) (answers (e .request) (e .answers) q) m in
@@ -391,9 +372,9 @@ module _ (s : Session) (from : Side) (p : Content) (a : factsOf (eventOf from p)
         }
 
     found-to : (i : ℕ) → lowest t query ≡ some i → tooLong e (Matched i (placeAt t i .request)) ≡ false → AnsweredBy t p i × (countOf p ≤ placeAt t i .request .length)
-    unfolding lowest eventOf
+    unfolding eventOf
     found-to i o h =
-        let w = first-found (meets query) (t .places) i freePlace o in
+        let w = lowest-found t query i o in
         (answers-to i (w .0) (w .1), ltb-false (placeAt t i .request .length) (countOf p) h)
 
     reply-to : noSuchRequest e (matchOf t e) ≡ false → tooLong e (matchOf t e) ≡ false → ((i : ℕ) × AnsweredBy t p i × (countOf p ≤ placeAt t i .request .length)) ⊎ Unsolicited t p
@@ -407,15 +388,15 @@ module _ (s : Session) (from : Side) (p : Content) (a : factsOf (eventOf from p)
         go (some i) z = let w = found-to i z (sym (ap (tooLong e) (at (some i) z)) ∙ l) in inl (i, w .0, w .1)
 
     -- one live request has the reply's id, so the one that is found is the one that is meant
-    one-match : idsDiffer (t .places) ≡ true → (i j : ℕ) → AnsweredBy t p i → AnsweredBy t p j → i ≡ j
-    one-match u i j v w = differ-when (t .places) u i j (v .place) (w .place) (v .live) (w .live) (v .id ∙ sym (w .id))
+    one-match : idsDiffer t ≡ true → (i j : ℕ) → AnsweredBy t p i → AnsweredBy t p j → i ≡ j
+    one-match u i j v w = differ-when t u i j (v .live) (w .live) (v .id ∙ sym (w .id))
 
-    matched-from : idsDiffer (t .places) ≡ true → (i : ℕ) → AnsweredBy t p i → countOf p ≤ placeAt t i .request .length → (noSuchRequest e (matchOf t e) ≡ false) × (tooLong e (matchOf t e) ≡ false)
-    unfolding lowest eventOf
+    matched-from : idsDiffer t ≡ true → (i : ℕ) → AnsweredBy t p i → countOf p ≤ placeAt t i .request .length → (noSuchRequest e (matchOf t e) ≡ false) × (tooLong e (matchOf t e) ≡ false)
+    unfolding eventOf
     matched-from u i w l =
-        let f = first-some (meets query) (t .places) freePlace i (w .place) (answers-from i w) in
+        let f = lowest-some t query i (w .place) (answers-from i w) in
         let j = f .0 in
-        let z = first-found (meets query) (t .places) j freePlace (f .1) in
+        let z = lowest-found t query j (f .1) in
         let same : i ≡ j = one-match u i j w (answers-to j (z .0) (z .1)) in
         let m : matchOf t e ≡ Matched j (placeAt t j .request) = match-is ∙ ap (matchIn t) (f .1) in (
           ap (noSuchRequest e) m ∙ failing (traitsOf (e .class) .reply && false) _ (λ x. absurd (false≢true (and-parts (traitsOf (e .class) .reply) false x .1))),
@@ -439,7 +420,7 @@ module _ (s : Session) (from : Side) (p : Content) (a : factsOf (eventOf from p)
       let m : matchOf t e ≡ Unmatched = rw n in
       (rw n, ap (tooLong e) m)
 
-  pub reply-from : idsDiffer (t .places) ≡ true → (isReply from (p .kind) (inwardOf p) ≡ true → ((i : ℕ) × AnsweredBy t p i × (countOf p ≤ placeAt t i .request .length)) ⊎ Unsolicited t p) → (noSuchRequest e (matchOf t e) ≡ false) × (tooLong e (matchOf t e) ≡ false)
+  pub reply-from : idsDiffer t ≡ true → (isReply from (p .kind) (inwardOf p) ≡ true → ((i : ℕ) × AnsweredBy t p i × (countOf p ≤ placeAt t i .request .length)) ⊎ Unsolicited t p) → (noSuchRequest e (matchOf t e) ≡ false) × (tooLong e (matchOf t e) ≡ false)
   reply-from u f = cases (isReply from (p .kind) (inwardOf p)) (λ r. go r (f r)) no-reply
     where
       go : isReply from (p .kind) (inwardOf p) ≡ true → ((i : ℕ) × AnsweredBy t p i × (countOf p ≤ placeAt t i .request .length)) ⊎ Unsolicited t p → (noSuchRequest e (matchOf t e) ≡ false) × (tooLong e (matchOf t e) ≡ false)
@@ -450,17 +431,17 @@ module _ (s : Session) (from : Side) (p : Content) (a : factsOf (eventOf from p)
 
 -- a packet of a known kind, from an end that may send it, to a session whose live requests have different ids (43 refuses others):
 -- the session checks give it 0 exactly when it is allowed
-pub passes : (s : Session) (from : Side) (p : Content) (k : Kind) → find (p .kind) kinds ≡ some k → sends (k .sender) from ≡ true → idsDiffer (s .requests .places) ≡ true
-    → (numberOf (s .device) (s .requests) (eventOf from p) ≡ 0) ↔ Allowed s from p
+pub passes : (s : Session) (from : Side) (p : Content) (k : Kind) → find (p .kind) kinds ≡ some k → sends (k .sender) from ≡ true → idsDiffer (s .requests) ≡ true
+    → (numberOf (s .head) (s .rows) (s .requests) (eventOf from p) ≡ 0) ↔ Allowed s from p
 unfolding numberOf
 passes s from p k f h u = (allowed, zero-number)
   where
     a : factsOf (eventOf from p) ≡ factsBy from p
     a = agrees from p k f h
 
-    allowed : numberFor (s .device) (s .requests) (eventOf from p) (matchOf (s .requests) (eventOf from p)) ≡ 0 → Allowed s from p
+    allowed : numberFor (s .head) (s .rows) (s .requests) (eventOf from p) (matchOf (s .requests) (eventOf from p)) ≡ 0 → Allowed s from p
     allowed z =
-        let q = none-holds (s .device) (s .requests) (eventOf from p) (matchOf (s .requests) (eventOf from p)) z in
+        let q = none-holds (s .head) (s .rows) (s .requests) (eventOf from p) (matchOf (s .requests) (eventOf from p)) z in
         record {
           device = device-to s from p a (q .device);
           ack = ack-to s from p a (q .ack);
@@ -476,10 +457,10 @@ passes s from p k f h u = (allowed, zero-number)
           reply = λ r. reply-to s from p a r (q .matched) (q .short);
         }
 
-    zero-number : Allowed s from p → numberFor (s .device) (s .requests) (eventOf from p) (matchOf (s .requests) (eventOf from p)) ≡ 0
+    zero-number : Allowed s from p → numberFor (s .head) (s .rows) (s .requests) (eventOf from p) (matchOf (s .requests) (eventOf from p)) ≡ 0
     zero-number w =
         let r = reply-from s from p a u (w .reply) in
-        holds-none (s .device) (s .requests) (eventOf from p) (matchOf (s .requests) (eventOf from p))
+        holds-none (s .head) (s .rows) (s .requests) (eventOf from p) (matchOf (s .requests) (eventOf from p))
         (record {
           device = device-from s from p a (w .device);
           ack = ack-from s from p a (w .ack);

@@ -11,7 +11,7 @@ use mathlib.Core.Path.{_≡_, sym, subst, _∙_}
 use Rattle.header.specs.declared.Side.{Side}
 use Rattle.kinds.specs.Content.{Content}
 use Rattle.kinds.specs.Number.{wireNumber}
-use Rattle.device.specs.Device.{startDevice, controlRows}
+use Rattle.device.specs.Device.{controlRows}
 use Rattle.device.specs.Laws.{start-control}
 use Rattle.requests.specs.Requests.{placeAt, idsDiffer}
 use Rattle.requests.specs.Laws.{fresh-differ}
@@ -23,7 +23,7 @@ use Rattle.session.specs.Step.{judged}
 use Rattle.claims.specs.Allowed.{isRequest, isReply, inwardOf}
 use Rattle.claims.specs.Agree.{agrees}
 use Rattle.claims.specs.Steps.{NoLive, absent-kept, ended-absent}
-use Rattle.claims.specs.Kept.{Sized, start-sized, kept-ids, kept-control, event-control, kept-lengths}
+use Rattle.claims.specs.Kept.{kept-ids, kept-control, event-control}
 use Rattle.claims.specs.Exchange.{LateReply, late}
 
 -- a packet and who sent it
@@ -50,13 +50,12 @@ AllOutOfWire s (x ∷ xs) = OutOfWire s x × AllOutOfWire (nextBy s x) xs
 -- ---- what 43 tests of a session, but for the held counts, which are the gate's
 
 pub record Sound (s : Session) : Type 0 where
-  pub ids : idsDiffer (s .requests .places) ≡ true
-  pub control : controlRows (s .device .rows) ≡ true
-  pub sized : Sized s
+  pub ids : idsDiffer (s .requests) ≡ true
+  pub control : controlRows (s .rows) ≡ true
 
 pub start-sound : Sound freshSession
-unfolding freshSession startDevice
-start-sound = record { ids = fresh-differ; control = start-control; sized = start-sized }
+unfolding freshSession
+start-sound = record { ids = fresh-differ; control = start-control }
 
 pub step-sound : (s : Session) (x : Sent) → Sound s → OutOfWire s x → Sound (nextBy s x)
 step-sound s x h w =
@@ -64,7 +63,6 @@ step-sound s x h w =
     record {
       ids = kept-ids s e (h .ids);
       control = kept-control s e (h .control) (event-control (linkOf (x .from) s) (x .packet) w);
-      sized = kept-lengths s e (h .sized);
     }
 
 pub run-sound : (s : Session) (xs : List Sent) → Sound s → AllOutOfWire s xs → Sound (run s xs)
@@ -93,7 +91,7 @@ absent-run s (x ∷ xs) n w h f = absent-run (nextBy s x) xs n (w .1) (absent-st
 -- a request waits at place i; a packet x ends it, by its reply or otherwise; packets follow, none of them a request with its id;
 -- then a reply with its id is a late one: it is refused, but for an unsolicited status, and no request is freed by it
 pub never-another : (s : Session) (i : ℕ) (x : Sent) (xs : List Sent) (from : Side) (p : Content)
-    → idsDiffer (s .requests .places) ≡ true
+    → idsDiffer (s .requests) ≡ true
     → placeAt (s .requests) i .live ≡ true
     → OutOfWire s x
     → placeAt (nextBy s x .requests) i .live ≡ false

@@ -4,15 +4,14 @@
 -- The judge's number is 0 only where no check holds, and then the session is the next one. What that does to the requests goes by
 -- four roles of a class, and what stands at a place afterwards by the laws of the table.
 -- Assumes nothing.
-use Prim.Native.Nat.{ℕ, zero, suc, _≤_, _<_}
-use mathlib.Core.Bool.{Bool, true, false, cond, not, _&&_, false≢true, true≢false}
+use Prim.Native.Nat.{ℕ, _≤_, _<_}
+use mathlib.Core.Bool.{Bool, true, false, cond, not, _&&_, _||_, false≢true, true≢false}
 use mathlib.Core.List.{List, [], _∷_}
 use mathlib.Core.Logic.{_⊎_, inl, inr}
 use mathlib.Core.Option.{Option, none, some}
 use mathlib.Core.Path.{_≡_, refl, sym, ap, _∙_}
-use lib.ListN.{length, getD, replicate}
 use lib.Dec.{eqb}
-use borrow.Author.Tests.{eqb-true, eqb-false, eq-eqb, ltb-false, not-true, not-false}
+use borrow.Author.Tests.{eqb-true, eqb-false, eq-eqb, ne-eqb, lt-ltb, ltb-false, not-true, not-false}
 use borrow.Table.Steps.{cases}
 use Rattle.number.specs.Logic.{and-parts, and-whole, fails}
 use Rattle.header.specs.declared.Side.{Side}
@@ -22,23 +21,19 @@ use Rattle.kinds.specs.Table.{Kind, kinds}
 use Rattle.kinds.specs.Content.{Content, find}
 use Rattle.kinds.specs.Number.{isGuest, sends, wireNumber}
 use Rattle.kinds.specs.RoundTrip.{Clean, clean}
-use Rattle.device.specs.declared.Device.{Device}
-use Rattle.requests.specs.declared.Place.{Place}
+use Rattle.device.specs.declared.Head.{Head}
+use Rattle.device.specs.declared.Rows.{Rows}
 use Rattle.requests.specs.declared.Request.{Request}
 use Rattle.requests.specs.declared.Requests.{Requests}
-use Rattle.requests.specs.declared.Query.{Query}
-use Rattle.requests.specs.declared.Query.the-variants.{Free, Id, Answered}
-use Rattle.requests.specs.Requests.{noRequest, freePlace, taken, freshRequests, meets, answers, lowest, placeAt, withPlace, ends, released, idsDiffer}
-use Rattle.requests.specs.Laws.{place-set, place-other, with-place-length, released-length, released-at, differ-when, live-within, lowest-found, lowest-lower, lowest-none}
-use Rattle.events.specs.declared.Class.{Class}
-use Rattle.events.specs.declared.Class.the-variants.{Hello, Connect, Interfaces, Endpoints, Disconnect, Reset, Ack, Cancel, Filter, StartRequest, PlainRequest, StreamStatus, PlainReply, StreamData}
-use Rattle.events.specs.declared.Event.{Event}
-use Rattle.events.specs.Event.{eventOf}
-use Rattle.checks.specs.declared.Match.{Match}
-use Rattle.checks.specs.declared.Match.the-variants.{Unmatched, Matched}
-use Rattle.checks.specs.Checks.{traitsOf, isSome, outOfOrder, matchIn, matchOf, isUnmatched, isUnsolicited, tooLong, numberFor, numberOf}
+use Rattle.requests.specs.Requests.{isSome, Place, Query, Free, Id, Answered, noRequest, freePlace, taken, meets, answers, lowest, placeAt, withRequest, ends, released, cleared, idsDiffer}
+use Rattle.requests.specs.Laws.{place-taken, released-at, cleared-at, differ-when, live-within, lowest-found, lowest-lower, lowest-none}
+use Rattle.events.specs.Meaning.{Class, Hello, Connect, Interfaces, Endpoints, Disconnect, Reset, Ack, Cancel, Filter, StartRequest, PlainRequest, StreamStatus, PlainReply, StreamData}
+use Rattle.events.specs.Event.{Event, eventOf}
+use Rattle.checks.specs.Checks.{Match, Unmatched, Matched, traitsOf, outOfOrder, matchIn, matchOf, isUnmatched, isUnsolicited, tooLong, numberFor, numberOf}
 use Rattle.session.specs.declared.Session.{Session}
-use Rattle.session.specs.Step.{scopeOf, asked, takenAt, answered, requestsAfter, nextFor, judged}
+use Rattle.checks.specs.declared.Change.the-variants.{Take, Answer}
+use Rattle.checks.specs.Change.{opens, scopeOf, placeOr, placeIn, changeBy}
+use Rattle.session.specs.Step.{requestsAfter, applied, nextFor, judged}
 use Rattle.claims.specs.Allowed.{among, isReply, inwardOf}
 use Rattle.claims.specs.Agree.{Facts, agrees}
 use Rattle.claims.specs.Passes.{NoneHolds, none-holds, at-some}
@@ -51,22 +46,22 @@ after s e = judged s e .session
 
 module _ (s : Session) (e : Event) where
   -- the number is that of the session checks
-  pub number-is : judged s e .number ≡ numberOf (s .device) (s .requests) e
+  pub number-is : judged s e .number ≡ numberOf (s .head) (s .rows) (s .requests) e
   unfolding judged numberOf
   number-is =
-      let n = numberFor (s .device) (s .requests) e (matchOf (s .requests) e) in
+      let n = numberFor (s .head) (s .rows) (s .requests) e (matchOf (s .requests) e) in
       cases (eqb n 0) (λ t. rw t (sym (eqb-true n 0 t))) (λ t. rw t)
 
   -- a refused packet changes nothing
   pub refused : (judged s e .number ≡ 0 → ⊥) → judged s e .session ≡ s
   unfolding judged
-  refused h = cases (eqb (numberFor (s .device) (s .requests) e (matchOf (s .requests) e)) 0) (λ t. absurd (h (rw t))) (λ t. rw t)
+  refused h = cases (eqb (numberFor (s .head) (s .rows) (s .requests) e (matchOf (s .requests) e)) 0) (λ t. absurd (h (rw t))) (λ t. rw t)
 
   -- one that passes does what the rules say of it
   pub passed : judged s e .number ≡ 0 → judged s e .session ≡ nextFor s e (matchOf (s .requests) e)
   unfolding judged numberOf
   passed z =
-      let n = numberFor (s .device) (s .requests) e (matchOf (s .requests) e) in
+      let n = numberFor (s .head) (s .rows) (s .requests) e (matchOf (s .requests) e) in
       cases (eqb n 0) (λ t. rw t) (λ t. absurd (eqb-false n 0 t (sym number-is ∙ z)))
 
   -- so what holds before a packet, and after it where it passes, holds after it
@@ -111,25 +106,29 @@ isAnswering asking = false
 isAnswering answering = true
 isAnswering ending = false
 
+-- the requests after a reply
+abbrev pub answeredWith : Session → Event → Match → Requests
+answeredWith s e m = requestsAfter (s .requests) (s .rows) (Answer (placeIn m) (e .typed) (opens e m) (scopeOf e m))
+
 -- the requests after a packet of this role
 abbrev pub requestsBy : Role → Session → Event → Match → Requests
 requestsBy leaving s e m = s .requests
-requestsBy asking s e m = asked (s .requests) (e .request)
-requestsBy answering s e m = answered (s .requests) (s .device .rows) e m
-requestsBy ending s e m = freshRequests
+requestsBy asking s e m = requestsAfter (s .requests) (s .rows) (Take (placeOr (lowest (s .requests) Free)) (e .request))
+requestsBy answering s e m = answeredWith s e m
+requestsBy ending s e m = cleared (s .requests)
 
 -- a reply needs a device; of its order, type, row and stream nothing is asked
 abbrev pub Unasked : Class → Role → Type 0
 Unasked c leaving = Unit {0}
 Unasked c asking = Unit {0}
 Unasked c answering =
-    (d : Device) → (traitsOf c .device ≡ true) × (traitsOf c .introduces ≡ false) × (outOfOrder d c ≡ false) × (traitsOf c .typed ≡ false) × (traitsOf c .streamed ≡ false)
+    (h : Head) → (traitsOf c .device ≡ true) × (traitsOf c .introduces ≡ false) × (outOfOrder h c ≡ false) × (traitsOf c .typed ≡ false) × (traitsOf c .streamed ≡ false)
 Unasked c ending = Unit {0}
 
 -- what the checks ask of a class of this role, and what it does
 abbrev pub Does : Class → Role → Type 0
 Does c r =
-    (traitsOf c .request ≡ isAsking r) × (traitsOf c .reply ≡ isAnswering r) × Unasked c r × ((s : Session) (e : Event) (m : Match) → requestsAfter c (s .requests) (s .device .rows) e m ≡ requestsBy r s e m)
+    (traitsOf c .request ≡ isAsking r) × (traitsOf c .reply ≡ isAnswering r) × Unasked c r × ((s : Session) (e : Event) (m : Match) → requestsAfter (s .requests) (s .rows) (changeBy c (s .requests) e m) ≡ requestsBy r s e m)
 
 pub does : (c : Class) → Does c (roleOf c)
 does Hello = (refl, refl, tt, λ s e m. refl)
@@ -143,8 +142,8 @@ does Cancel = (refl, refl, tt, λ s e m. refl)
 does Filter = (refl, refl, tt, λ s e m. refl)
 does StartRequest = (refl, refl, tt, λ s e m. refl)
 does PlainRequest = (refl, refl, tt, λ s e m. refl)
-does StreamStatus = (refl, refl, λ d. (refl, refl, refl, refl, refl), λ s e m. refl)
-does PlainReply = (refl, refl, λ d. (refl, refl, refl, refl, refl), λ s e m. refl)
+does StreamStatus = (refl, refl, λ h. (refl, refl, refl, refl, refl), λ s e m. refl)
+does PlainReply = (refl, refl, λ h. (refl, refl, refl, refl, refl), λ s e m. refl)
 does StreamData = (refl, refl, tt, λ s e m. refl)
 
 -- so a class that takes a place has that role, and the same for the other two
@@ -169,7 +168,7 @@ reply-does c h = go (roleOf c) (does c)
 module _ (s : Session) (e : Event) (r : Role) (d : Does (e .class) r) where
   -- the requests after a packet, by the role of its class
   pub next-requests : nextFor s e (matchOf (s .requests) e) .requests ≡ requestsBy r s e (matchOf (s .requests) e)
-  unfolding nextFor
+  unfolding nextFor applied
   next-requests = d .3 s e (matchOf (s .requests) e)
 
   -- the same of the session that the judge answers with
@@ -181,16 +180,16 @@ module _ (s : Session) (e : Event) (r : Role) (d : Does (e .class) r) where
   requests-kept k = step s e (λ (x : Session). x .requests ≡ s .requests) refl (λ z. next-requests ∙ k)
 
 -- no check holds of a packet that passes
-pub none-held : (s : Session) (e : Event) → judged s e .number ≡ 0 → NoneHolds (s .device) (s .requests) e (matchOf (s .requests) e)
+pub none-held : (s : Session) (e : Event) → judged s e .number ≡ 0 → NoneHolds (s .head) (s .rows) (s .requests) e (matchOf (s .requests) e)
 unfolding numberOf
-none-held s e z = none-holds (s .device) (s .requests) e (matchOf (s .requests) e) (sym (number-is s e) ∙ z)
+none-held s e z = none-holds (s .head) (s .rows) (s .requests) e (matchOf (s .requests) e) (sym (number-is s e) ∙ z)
 
 -- ---- a request
 
 pub record Taken (s : Session) (e : Event) : Type 0 where
   -- a place of the table
   pub place : ℕ
-  pub within : place < length (s .requests .places)
+  pub within : place < 96
   -- it was free
   pub free : placeAt (s .requests) place .live ≡ false
   -- every lower place was taken
@@ -210,26 +209,23 @@ request-takes s e h z = go (lowest t Free) refl room (requests-passed s e asking
     room : isSome (lowest t Free) ≡ true
     room = not-false (isSome (lowest t Free)) (fails (traitsOf (e .class) .request) (not (isSome (lowest t Free))) (none-held s e z .room) h)
 
-    go : (o : Option ℕ) → lowest t Free ≡ o → isSome o ≡ true → after s e .requests ≡ takenAt t (e .request) o → Taken s e
+    go : (o : Option ℕ) → lowest t Free ≡ o → isSome o ≡ true → after s e .requests ≡ requestsAfter t (s .rows) (Take (placeOr o) (e .request)) → Taken s e
     go none f g a = absurd (false≢true g)
     go (some i) f g a =
         let found = lowest-found t Free i f in
+        let b : after s e .requests ≡ withRequest t i (e .request) = a ∙ rw (lt-ltb i 96 (found .0)) in
         record {
           place = i;
           within = found .0;
           free = not-true (placeAt t i .live) (found .1);
           lower = λ j l. not-false (placeAt t j .live) (lowest-lower t Free i f j l);
-          holds = ap (λ (x : Requests). placeAt x i) a ∙ place-set t i (taken (e .request)) (found .0);
-          others = λ j n. ap (λ (x : Requests). placeAt x j) a ∙ place-other t i j (taken (e .request)) (λ k. n (sym k));
+          holds = ap (λ (x : Requests). placeAt x i) b ∙ place-taken t i (e .request) f i ∙ rw (eq-eqb i i refl);
+          others = λ j n. ap (λ (x : Requests). placeAt x j) b ∙ place-taken t i (e .request) f j ∙ rw (ne-eqb j i n);
         }
 
 -- ---- a reply
 
--- the place and the request of a match
-abbrev placeIn : Match → ℕ
-placeIn Unmatched = 0
-placeIn (Matched i q) = i
-
+-- the request of a match
 abbrev requestIn : Match → Request
 requestIn Unmatched = noRequest
 requestIn (Matched i q) = q
@@ -242,7 +238,7 @@ match-in t (some j) i q m = let k : j ≡ i = ap placeIn m in (ap some k, ap (λ
 -- the place that a reply matches is of a live request, which it answers
 record Found (t : Requests) (e : Event) (i : ℕ) (q : Request) : Type 0 where
   reply : traitsOf (e .class) .reply ≡ true
-  within : i < length (t .places)
+  within : i < 96
   live : placeAt t i .live ≡ true
   request : placeAt t i .request ≡ q
   answered : answers (e .request) (e .answers) q ≡ true
@@ -260,7 +256,7 @@ match-found t e i q m = cases (traitsOf (e .class) .reply) there (λ h. absurd (
 
 pub record Freed (s : Session) (e : Event) (i : ℕ) (q : Request) : Type 0 where
   -- the place is one of the table, and q was live there
-  pub within : i < length (s .requests .places)
+  pub within : i < 96
   pub live : placeAt (s .requests) i .live ≡ true
   pub request : placeAt (s .requests) i .request ≡ q
   -- the reply answers it, and is not longer than it asked for
@@ -269,11 +265,11 @@ pub record Freed (s : Session) (e : Event) (i : ℕ) (q : Request) : Type 0 wher
   -- now the place is free
   pub freed : placeAt (after s e .requests) i ≡ freePlace
   -- any other place is free too where it ends the data request there, and else as before
-  pub others : (j : ℕ) → (j ≡ i → ⊥) → placeAt (after s e .requests) j ≡ cond (ends (s .device .rows) (scopeOf e (Matched i q)) (placeAt (s .requests) j)) freePlace (placeAt (s .requests) j)
+  pub others : (j : ℕ) → (j ≡ i → ⊥) → placeAt (after s e .requests) j ≡ cond (ends (s .rows) (scopeOf e (Matched i q)) (placeAt (s .requests) j)) freePlace (placeAt (s .requests) j)
 
 -- no live request has this id
 abbrev pub NoLive : Requests → ℕ → Type 0
-NoLive t n = (j : ℕ) → j < length (t .places) → placeAt t j .live ≡ true → placeAt t j .request .id ≡ n → ⊥
+NoLive t n = (j : ℕ) → j < 96 → placeAt t j .live ≡ true → placeAt t j .request .id ≡ n → ⊥
 
 -- a reply has the id of a request that it answers
 same-id : (e : Event) (q : Request) → answers (e .request) (e .answers) q ≡ true → q .id ≡ e .request .id
@@ -287,7 +283,7 @@ no-match t e n = cases (traitsOf (e .class) .reply) (λ h. rw h (ap (matchIn t) 
     query : Query
     query = Answered (e .request) (e .answers)
 
-    unmet : (j : ℕ) → j < length (t .places) → meets query (placeAt t j) ≡ false
+    unmet : (j : ℕ) → j < 96 → meets query (placeAt t j) ≡ false
     unmet j l =
         cases (meets query (placeAt t j))
         (λ h. let r = and-parts (placeAt t j .live) _ h in absurd (n j l (r .0) (same-id e (placeAt t j .request) (r .1))))
@@ -299,15 +295,12 @@ module _ (s : Session) (e : Event) (i : ℕ) (q : Request) (z : judged s e .numb
   found = match-found (s .requests) e i q m
 
   -- the table after it, and each place of it
-  replied : after s e .requests ≡ released (withPlace (s .requests) i freePlace) (s .device .rows) (scopeOf e (Matched i q))
-  replied = requests-passed s e answering (reply-does (e .class) (found .reply)) z ∙ ap (answered (s .requests) (s .device .rows) e) m
+  replied : after s e .requests ≡ released (s .requests) i (s .rows) (scopeOf e (Matched i q))
+  replied = requests-passed s e answering (reply-does (e .class) (found .reply)) z ∙ ap (answeredWith s e) m ∙ rw (lt-ltb i 96 (found .within))
 
-  place-after : (j : ℕ) (p : Place) → placeAt (withPlace (s .requests) i freePlace) j ≡ p
-      → placeAt (after s e .requests) j ≡ cond (ends (s .device .rows) (scopeOf e (Matched i q)) p) freePlace p
-  place-after j p h =
-      ap (λ (x : Requests). placeAt x j) replied
-      ∙ released-at (withPlace (s .requests) i freePlace) (s .device .rows) (scopeOf e (Matched i q)) j
-      ∙ ap (λ (x : Place). cond (ends (s .device .rows) (scopeOf e (Matched i q)) x) freePlace x) h
+  place-after : (j : ℕ)
+      → placeAt (after s e .requests) j ≡ cond (eqb j i || ends (s .rows) (scopeOf e (Matched i q)) (placeAt (s .requests) j)) freePlace (placeAt (s .requests) j)
+  place-after j = ap (λ (x : Requests). placeAt x j) replied ∙ released-at (s .requests) i (s .rows) (scopeOf e (Matched i q)) j
 
   -- it frees that place
   pub reply-frees : Freed s e i q
@@ -318,12 +311,12 @@ module _ (s : Session) (e : Event) (i : ℕ) (q : Request) (z : judged s e .numb
         request = found .request;
         answered = found .answered;
         short = ltb-false (q .length) (e .request .length) (sym (ap (tooLong e) m) ∙ none-held s e z .short);
-        freed = place-after i freePlace (place-set (s .requests) i freePlace (found .within));
-        others = λ j n. place-after j (placeAt (s .requests) j) (place-other (s .requests) i j freePlace (λ k. n (sym k)));
+        freed = place-after i ∙ rw (eq-eqb i i refl);
+        others = λ j n. place-after j ∙ rw (ne-eqb j i n);
       }
 
   -- where the ids of live requests differ, none with its id is live after it
-  pub answered-once : idsDiffer (s .requests .places) ≡ true → NoLive (after s e .requests) (e .request .id)
+  pub answered-once : idsDiffer (s .requests) ≡ true → NoLive (after s e .requests) (e .request .id)
   answered-once d j l v n = cases (eqb j i) here there
     where
       t : Requests
@@ -334,21 +327,18 @@ module _ (s : Session) (e : Event) (i : ℕ) (q : Request) (z : judged s e .numb
           let w : placeAt (after s e .requests) j ≡ freePlace = rw (eqb-true j i k) (reply-frees .freed) in
           false≢true (sym (ap (λ (x : Place). x .live) w) ∙ v)
 
-      long : j < length (t .places)
-      long = rw (replied, released-length, with-place-length) at l
-
       other : (b : Bool) → placeAt (after s e .requests) j ≡ cond b freePlace (placeAt t j) → i ≡ j
       other true w = absurd (false≢true (sym (ap (λ (x : Place). x .live) w) ∙ v))
       other false w =
-          differ-when (t .places) d i j (found .within) long (found .live) (sym (ap (λ (x : Place). x .live) w) ∙ v)
+          differ-when t d i j (found .live) (sym (ap (λ (x : Place). x .live) w) ∙ v)
           (ap (λ (x : Request). x .id) (found .request) ∙ same-id e q (found .answered) ∙ sym n ∙ ap (λ (x : Place). x .request .id) w)
 
       there : eqb j i ≡ false → ⊥
-      there k = eqb-false j i k (sym (other (ends (s .device .rows) (scopeOf e (Matched i q)) (placeAt t j)) (reply-frees .others j (eqb-false j i k))))
+      there k = eqb-false j i k (sym (other (ends (s .rows) (scopeOf e (Matched i q)) (placeAt t j)) (reply-frees .others j (eqb-false j i k))))
 
 -- a reply that matches nothing leaves the requests as they were
 pub unmatched-keeps : (s : Session) (e : Event) → traitsOf (e .class) .reply ≡ true → matchOf (s .requests) e ≡ Unmatched → after s e .requests ≡ s .requests
-unmatched-keeps s e h m = requests-kept s e answering (reply-does (e .class) h) (ap (answered (s .requests) (s .device .rows) e) m)
+unmatched-keeps s e h m = requests-kept s e answering (reply-does (e .class) h) (ap (answeredWith s e) m)
 
 -- ---- any packet: a place is then free, as it was, or taken by the packet's own request
 
@@ -357,15 +347,6 @@ PlaceAfter s e j =
     (placeAt (after s e .requests) j .live ≡ false)
     ⊎ ((placeAt (after s e .requests) j ≡ placeAt (s .requests) j)
     ⊎ ((traitsOf (e .class) .request ≡ true) × (judged s e .number ≡ 0) × (placeAt (after s e .requests) j ≡ taken (e .request))))
-
-free-everywhere : (n j : ℕ) → getD (replicate n freePlace) j freePlace ≡ freePlace
-free-everywhere zero j = refl
-free-everywhere (suc n) zero = refl
-free-everywhere (suc n) (suc j) = free-everywhere n j
-
-fresh-place : (j : ℕ) → placeAt freshRequests j .live ≡ false
-unfolding freshRequests
-fresh-place j = ap (λ (p : Place). p .live) (free-everywhere 96 j)
 
 place-after-any : (s : Session) (e : Event) (j : ℕ) → PlaceAfter s e j
 place-after-any s e j = cases (eqb (judged s e .number) 0) (λ z. by-role (roleOf (e .class)) (does (e .class)) (eqb-true (judged s e .number) 0 z)) unchanged
@@ -382,14 +363,14 @@ place-after-any s e j = cases (eqb (judged s e .number) 0) (λ z. by-role (roleO
     freed-live : placeAt (after s e .requests) j ≡ freePlace → placeAt (after s e .requests) j .live ≡ false
     freed-live h = ap (λ (p : Place). p .live) h
 
-    replying : (m : Match) → matchOf t e ≡ m → judged s e .number ≡ 0 → after s e .requests ≡ answered t (s .device .rows) e (matchOf t e) → PlaceAfter s e j
-    replying Unmatched m z h = inr (inl (at t (h ∙ ap (answered t (s .device .rows) e) m)))
+    replying : (m : Match) → matchOf t e ≡ m → judged s e .number ≡ 0 → after s e .requests ≡ answeredWith s e (matchOf t e) → PlaceAfter s e j
+    replying Unmatched m z h = inr (inl (at t (h ∙ ap (answeredWith s e) m)))
     replying (Matched i q) m z h =
         let f = reply-frees s e i q z m in
         cases (eqb j i)
         (λ k. inl (freed-live (rw (eqb-true j i k) (f .freed))))
         (λ k.
-        cases (ends (s .device .rows) (scopeOf e (Matched i q)) (placeAt t j))
+        cases (ends (s .rows) (scopeOf e (Matched i q)) (placeAt t j))
         (λ x. inl (freed-live (f .others j (eqb-false j i k) ∙ rw x)))
         (λ x. inr (inl (f .others j (eqb-false j i k) ∙ rw x))))
 
@@ -401,7 +382,7 @@ place-after-any s e j = cases (eqb (judged s e .number) 0) (λ z. by-role (roleO
         (λ k. inr (inr (d .0, z, rw (eqb-true j (h .place) k) (h .holds))))
         (λ k. inr (inl (h .others j (eqb-false j (h .place) k))))
     by-role answering d z = replying (matchOf t e) refl z (requests-passed s e answering d z)
-    by-role ending d z = inl (ap (λ (p : Place). p .live) (at freshRequests (requests-passed s e ending d z)) ∙ fresh-place j)
+    by-role ending d z = inl (freed-live (at (cleared t) (requests-passed s e ending d z) ∙ cleared-at t j))
 
 -- ---- an id under which no request waits
 
@@ -413,11 +394,11 @@ absent-kept s e n h f j l v k = go (place-after-any s e j)
     go (inl x) = false≢true (sym x ∙ v)
     go (inr (inl x)) =
         let w : placeAt (s .requests) j .live ≡ true = sym (ap (λ (p : Place). p .live) x) ∙ v in
-        h j (live-within (s .requests .places) j w) w (sym (ap (λ (p : Place). p .request .id) x) ∙ k)
+        h j (live-within (s .requests) j w) w (sym (ap (λ (p : Place). p .request .id) x) ∙ k)
     go (inr (inr x)) = f (x .0) (sym (ap (λ (p : Place). p .request .id) (x .2)) ∙ k)
 
 -- whatever ended the one request that waited under an id, none waits under it then
-pub ended-absent : (s : Session) (e : Event) (i : ℕ) → idsDiffer (s .requests .places) ≡ true → placeAt (s .requests) i .live ≡ true → placeAt (after s e .requests) i .live ≡ false → NoLive (after s e .requests) (placeAt (s .requests) i .request .id)
+pub ended-absent : (s : Session) (e : Event) (i : ℕ) → idsDiffer (s .requests) ≡ true → placeAt (s .requests) i .live ≡ true → placeAt (after s e .requests) i .live ≡ false → NoLive (after s e .requests) (placeAt (s .requests) i .request .id)
 ended-absent s e i u a b j l v k = go (place-after-any s e j)
   where
     t : Requests
@@ -427,33 +408,33 @@ ended-absent s e i u a b j l v k = go (place-after-any s e j)
     go (inl x) = false≢true (sym x ∙ v)
     go (inr (inl x)) =
         let w : placeAt t j .live ≡ true = sym (ap (λ (p : Place). p .live) x) ∙ v in
-        let same : i ≡ j = differ-when (t .places) u i j (live-within (t .places) i a) (live-within (t .places) j w) a w (sym k ∙ ap (λ (p : Place). p .request .id) x) in
+        let same : i ≡ j = differ-when t u i j a w (sym k ∙ ap (λ (p : Place). p .request .id) x) in
         false≢true (sym b ∙ ap (λ (m : ℕ). placeAt (after s e .requests) m .live) same ∙ v)
     go (inr (inr x)) =
         let id : placeAt t i .request .id ≡ e .request .id = sym k ∙ ap (λ (p : Place). p .request .id) (x .2) in
         let free : isSome (lowest t (Id (e .request .id))) ≡ false = fails (traitsOf (e .class) .request) _ (none-held s e (x .1) .unused) (x .0) in
-        let met : isSome (lowest t (Id (e .request .id))) ≡ true = at-some t (Id (e .request .id)) i (live-within (t .places) i a) (and-whole (placeAt t i .live) _ a (eq-eqb (placeAt t i .request .id) (e .request .id) id)) in
+        let met : isSome (lowest t (Id (e .request .id))) ≡ true = at-some t (Id (e .request .id)) i (live-within t i a) (and-whole (placeAt t i .live) _ a (eq-eqb (placeAt t i .request .id) (e .request .id) id)) in
         false≢true (sym free ∙ met)
 
 -- ---- a late reply
 
 -- of the checks only 25 and 33 are left for a host's reply that matches nothing
-late-number : (d : Device) (t : Requests) (e : Event) → traitsOf (e .class) .reply ≡ true → isGuest (e .sender) ≡ false
-    → numberFor d t e Unmatched ≡ cond (not (d .present)) 25 (cond (not (isUnsolicited e)) 33 0)
+late-number : (h : Head) (rows : Rows) (t : Requests) (e : Event) → traitsOf (e .class) .reply ≡ true → isGuest (e .sender) ≡ false
+    → numberFor h rows t e Unmatched ≡ cond (not (h .present)) 25 (cond (not (isUnsolicited e)) 33 0)
 unfolding numberFor
-late-number d t e h g =
-    let r = reply-does (e .class) h in
-    let u = r .2 d in
-    rw (u .0, u .1, u .2, u .3, u .4, r .0, h, g)
+late-number h rows t e w g =
+    let r = reply-does (e .class) w in
+    let u = r .2 h in
+    rw (u .0, u .1, u .2, u .3, u .4, r .0, w, g)
 
 pub record Late (s : Session) (e : Event) : Type 0 where
   -- it matches no request
   pub unmatched : matchOf (s .requests) e ≡ Unmatched
   -- without a device it is refused with 25
-  pub absent : s .device .present ≡ false → judged s e .number ≡ 25
+  pub absent : s .head .present ≡ false → judged s e .number ≡ 25
   -- with one it is refused with 33, but for an unsolicited status, which passes
-  pub unanswered : s .device .present ≡ true → isUnsolicited e ≡ false → judged s e .number ≡ 33
-  pub unsolicited : s .device .present ≡ true → isUnsolicited e ≡ true → judged s e .number ≡ 0
+  pub unanswered : s .head .present ≡ true → isUnsolicited e ≡ false → judged s e .number ≡ 33
+  pub unsolicited : s .head .present ≡ true → isUnsolicited e ≡ true → judged s e .number ≡ 0
   -- in any case the requests are as before
   pub kept : after s e .requests ≡ s .requests
 
@@ -462,8 +443,8 @@ pub late-reply : (s : Session) (e : Event) → traitsOf (e .class) .reply ≡ tr
 unfolding numberOf
 late-reply s e h g n =
     let m : matchOf (s .requests) e ≡ Unmatched = no-match (s .requests) e n in
-    let w : judged s e .number ≡ cond (not (s .device .present)) 25 (cond (not (isUnsolicited e)) 33 0) =
-    number-is s e ∙ ap (numberFor (s .device) (s .requests) e) m ∙ late-number (s .device) (s .requests) e h g in
+    let w : judged s e .number ≡ cond (not (s .head .present)) 25 (cond (not (isUnsolicited e)) 33 0) =
+    number-is s e ∙ ap (numberFor (s .head) (s .rows) (s .requests) e) m ∙ late-number (s .head) (s .rows) (s .requests) e h g in
     record {
       unmatched = m;
       absent = λ a. w ∙ rw a;

@@ -6,7 +6,6 @@ use mathlib.Core.Bool.{Bool, true, false, not, _||_, or-false, false≢true}
 use mathlib.Core.List.{[], _∷_}
 use mathlib.Core.Logic.{_↔_}
 use mathlib.Core.Path.{_≡_, refl, sym, ap, _∙_}
-use lib.ListN.{getD}
 use lib.Dec.{eqb}
 use borrow.Author.Tests.{eqb-true, eqb-false, eq-eqb, ne-eqb, not-true}
 use Rattle.number.specs.Logic.{and-parts, and-whole, or-parts, or-none, true-not}
@@ -15,10 +14,9 @@ use Rattle.endpoint.specs.declared.Row.{Row}
 use Rattle.endpoint.specs.declared.RowOf.{RowOf}
 use Rattle.endpoint.specs.declared.RowOf.the-variants.{At, Malformed}
 use Rattle.endpoint.specs.Endpoint.{rowOf}
-use Rattle.device.specs.declared.RowState.{RowState}
 use Rattle.device.specs.declared.Rows.{Rows}
 use Rattle.device.specs.declared.Scope.the-variants.{OfInterface}
-use Rattle.device.specs.Device.{closedRow, touchedIn, touched, controlRows}
+use Rattle.device.specs.Device.{rowAt, touchedIn, touched, controlRows}
 use Rattle.requests.specs.Requests.{isData}
 use Rattle.claims.specs.Allowed.{among}
 
@@ -30,9 +28,6 @@ data-kinds kind = grouped (eqb kind 100) (eqb kind 101) (eqb kind 103)
     grouped true b c = refl
     grouped false true c = refl
     grouped false false c = sym (or-false c)
-
-abbrev rowAt : Rows → ℕ → RowState
-rowAt d r = getD (d .rows) r (closedRow 0)
 
 -- "rows other than 0 and 16 of that interface": an endpoint whose byte is no address has no row
 pub record InScope (d : Rows) (n : ℕ) (o : RowOf) : Type 0 where

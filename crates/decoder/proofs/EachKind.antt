@@ -1,15 +1,15 @@
--- Each kind's reading says what the table says: a law for each variant, and how an arm of the code cites it.
+-- Each reading of a kind below 100 says what the table says: a law for each variant, and how an arm of the code cites it.
 -- Assumes nothing.
-use Prim.Native.Nat.{ℕ, zero, suc, _+_, _*_, _/_, _%_, _≤_, _<_}
+use Prim.Native.Nat.{ℕ, zero, suc, _≤_, _<_}
 use native.Mathlib.Omega.{arith}
 use mathlib.Core.Path.{_≡_, refl, sym, ap, subst, _∙_}
-use mathlib.Core.Bool.{Bool, true, false, cond, _&&_, _||_}
+use mathlib.Core.Bool.{Bool, true, false, cond, _&&_}
 use mathlib.Core.List.{List, [], _∷_}
 use mathlib.Core.Option.{none}
 use lib.ListN.{length, take, drop, drop-of-length-le}
 use lib.Seq.{take-length, drop-drop}
-use lib.Dec.{leb, ltb}
-use borrow.Author.Tests.{le-leb, le-ltb}
+use lib.Dec.{leb}
+use borrow.Author.Tests.{le-leb}
 use Rattle.number.specs.Little.{le}
 use Rattle.number.specs.Bits.{hasBit}
 use Rattle.kinds.specs.Table.{kinds, kindAt}
@@ -17,9 +17,9 @@ use Rattle.kinds.specs.Content.{Value, one, shared, size, split}
 use Rattle.kinds.specs.Codec.{layout, contentAt}
 use Rattle.kinds.specs.Laws.{split-full}
 use Rattle.packet.specs.declared.Packet.{Packet}
-use Rattle.packet.specs.declared.Packet.the-variants.{Hello, Connect, Disconnect, Reset, InterfaceTable, EndpointTable, SetConfiguration, GetConfiguration, ConfigurationStatus, SetAlt, GetAlt, AltStatus, StartIso, StopIso, IsoStatus, StartInterrupt, StopInterrupt, InterruptStatus, AllocStreams, FreeStreams, StreamsStatus, Cancel, FilterReject, Filter, DisconnectAck, StartBulkReceiving, StopBulkReceiving, BulkReceivingStatus, Control, Bulk, Iso, Interrupt, BufferedBulk}
-use Rattle.packet.specs.Packet.{contentOf, optional, high, said, carrying, optional16Of}
-use Rattle.decoder.specs.Body.{Fits, ReadsBody, bulkCount}
+use Rattle.packet.specs.declared.Packet.the-variants.{Hello, Connect, Disconnect, Reset, InterfaceTable, EndpointTable, SetConfiguration, GetConfiguration, ConfigurationStatus, SetAlt, GetAlt, AltStatus, StartIso, StopIso, IsoStatus, StartInterrupt, StopInterrupt, InterruptStatus, AllocStreams, FreeStreams, StreamsStatus, Cancel, FilterReject, Filter, DisconnectAck, StartBulkReceiving, StopBulkReceiving, BulkReceivingStatus}
+use Rattle.packet.specs.Packet.{contentOf, optional, said, carrying, optional16Of}
+use Rattle.decoder.specs.Body.{Fits, ReadsBody}
 
 none-left : (body : List ℕ) (n : ℕ) → length body ≡ n → drop n body ≡ []
 none-left body n e = let h : length body ≤ n = omega (arith, e) in drop-of-length-le body h
@@ -145,30 +145,6 @@ unfolding kinds layout contentOf contentAt
 bulk-receiving-status caps body f =
     record { content = λ id i. record { kind = 27; id = id; fields = sym (split-full (shared caps) (kindAt 27 .fields) body (f .there)) i; rest = sym (none-left body 6 (f .exact refl)) i }; part = refl }
 
-pub control : (caps : ℕ) (body : List ℕ) → Fits caps 28 body → ReadsBody caps 28 body (Control (record { 0 = le 1 body 0 }) (le 1 body 1) (le 1 body 2) (le 1 body 3) (le 2 body 4) (le 2 body 6) (le 2 body 8) (record { start = 10; end = length body }))
-unfolding kinds layout contentOf contentAt
-control caps body f =
-    let e : drop 10 (take (length body) body) ≡ drop 10 body = ap (drop 10) (take-length body) in
-    record { content = λ id i. record { kind = 100; id = id; fields = sym (split-full (shared caps) (kindAt 28 .fields) body (f .there)) i; rest = e i }; part = refl }
-
-pub iso : (caps : ℕ) (body : List ℕ) → Fits caps 30 body → ReadsBody caps 30 body (Iso (record { 0 = le 1 body 0 }) (le 1 body 1) (le 2 body 2) (record { start = 4; end = length body }))
-unfolding kinds layout contentOf contentAt
-iso caps body f =
-    let e : drop 4 (take (length body) body) ≡ drop 4 body = ap (drop 4) (take-length body) in
-    record { content = λ id i. record { kind = 102; id = id; fields = sym (split-full (shared caps) (kindAt 30 .fields) body (f .there)) i; rest = e i }; part = refl }
-
-pub interrupt : (caps : ℕ) (body : List ℕ) → Fits caps 31 body → ReadsBody caps 31 body (Interrupt (record { 0 = le 1 body 0 }) (le 1 body 1) (le 2 body 2) (record { start = 4; end = length body }))
-unfolding kinds layout contentOf contentAt
-interrupt caps body f =
-    let e : drop 4 (take (length body) body) ≡ drop 4 body = ap (drop 4) (take-length body) in
-    record { content = λ id i. record { kind = 103; id = id; fields = sym (split-full (shared caps) (kindAt 31 .fields) body (f .there)) i; rest = e i }; part = refl }
-
-pub buffered-bulk : (caps : ℕ) (body : List ℕ) → Fits caps 32 body → ReadsBody caps 32 body (BufferedBulk (le 4 body 0) (le 4 body 4) (record { 0 = le 1 body 8 }) (le 1 body 9) (record { start = 10; end = length body }))
-unfolding kinds layout contentOf contentAt
-buffered-bulk caps body f =
-    let e : drop 10 (take (length body) body) ≡ drop 10 body = ap (drop 10) (take-length body) in
-    record { content = λ id i. record { kind = 104; id = id; fields = sym (split-full (shared caps) (kindAt 32 .fields) body (f .there)) i; rest = e i }; part = refl }
-
 -- ---- the kinds with a field that may be absent, and the tables
 
 optional-value : (b : Bool) (x : ℕ) → optional (optional16Of b x) ≡ cond b (one x) none
@@ -209,33 +185,6 @@ pub endpoint-table : (caps : ℕ) (body : List ℕ) → Fits caps 5 body
 unfolding kinds layout contentOf contentAt
 endpoint-table caps body f = record { content = λ id. rw (take-length body); part = refl }
 
-count-low : (b : Bool) (low x : ℕ) → low < 65536 → cond b (low + 65536 * x) low % 65536 ≡ low
-count-low true low x h = omega arith
-count-low false low x h = omega arith
-
-count-high : (b : Bool) (low x : ℕ) → low < 65536 → cond (b || ltb 65535 (cond b (low + 65536 * x) low)) (one (cond b (low + 65536 * x) low / 65536)) none ≡ cond b (one x) none
-count-high true low x h = let e : (low + 65536 * x) / 65536 ≡ x = omega arith in ap one e
-count-high false low x h = rw (le-ltb 65535 low (omega arith))
-
-size-bulk : (b : Bool) → cond b 10 8 ≡ 1 + (1 + (2 + (4 + (cond b 2 0 + 0))))
-size-bulk true = refl
-size-bulk false = refl
-
-pub bulk : (caps : ℕ) (body : List ℕ) → le 2 body 2 < 65536 → Fits caps 29 body
-    → ReadsBody caps 29 body (Bulk (record { 0 = le 1 body 0 }) (le 1 body 1) (bulkCount caps body) (le 4 body 4) (record { start = cond (hasBit caps 6) 10 8; end = length body }))
-unfolding kinds layout contentOf contentAt
-bulk caps body h f =
-    let b : Bool = hasBit caps 6 in
-    let lo : bulkCount caps body % 65536 ≡ le 2 body 2 = count-low b (le 2 body 2) (le 2 body 8) h in
-    let hi : high caps (bulkCount caps body) ≡ cond b (one (le 2 body 8)) none = count-high b (le 2 body 2) (le 2 body 8) h in
-    let d : drop (cond b 10 8) (take (length body) body) ≡ drop (size (shared caps) (kindAt 29 .fields)) body = ap (drop (cond b 10 8)) (take-length body) ∙ ap (λ (n : ℕ). drop n body) (size-bulk b) in
-    record {
-      content = λ id.
-          (λ i. record { kind = 101; id = id; fields = one (le 1 body 0) ∷ one (le 1 body 1) ∷ one (lo i) ∷ one (le 4 body 4) ∷ hi i ∷ []; rest = drop (cond b 10 8) (take (length body) body) })
-          ∙ (λ i. record { kind = 101; id = id; fields = sym (split-full (shared caps) (kindAt 29 .fields) body (f .there)) i; rest = d i });
-      part = λ i. record { start = size-bulk b i; end = length body };
-    }
-
 -- ---- a reading by a slot that is known
 
 pub reads-by : {caps slot k : ℕ} {body : List ℕ} {p q : Packet} → (Fits caps k body → ReadsBody caps k body q) → Fits caps slot body → slot ≡ k → p ≡ q
@@ -256,8 +205,8 @@ at-least slot (suc n) h =
     omega arith
 
 -- the slot that is left is the last
-pub last : {slot : ℕ} → slot < 33 → NoneBelow slot 32 → slot ≡ 32
-last {slot} h b = both slot h (at-least slot 32 b)
+pub last : {slot : ℕ} → slot < 28 → NoneBelow slot 27 → slot ≡ 27
+last {slot} h b = both slot h (at-least slot 27 b)
   where
-    both : (s : ℕ) → s < 33 → 32 ≤ s → s ≡ 32
+    both : (s : ℕ) → s < 28 → 27 ≤ s → s ≡ 27
     both s h l = omega arith

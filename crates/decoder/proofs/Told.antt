@@ -1,41 +1,41 @@
--- What a reading tells, step by step: a body of a known kind (`kind-refused`, `packet-refused`, `packet-passed`), then the bytes of one packet,
--- in the code's order (`short-refused`, `header-refused`, `length-refused`, `kind-unknown`, `kind-known`).
+-- What a reading tells, step by step: a body of a known kind (`size-refused`, `packet-read`), a body behind a header
+-- (`behind-unknown`, `behind-known`), then the bytes of one packet, in the code's order (`short-refused`, `header-refused`, `length-refused`,
+-- `body-read`).
 -- What is to be told is a number, and something handed on where that is 0. So a refusal owes its number alone (`not-handed`), and a packet that
--- passed also that it says what `decode` says (`is-handed`). The steps decide the tests of `readNumber` one after the other.
+-- passed also that it says what the body says (`is-handed`). The steps decide the tests of `readNumber` one after the other.
 -- Assumes nothing.
-use mathlib.Core.Path.{_≡_, refl, sym, ap, _∙_}
-use mathlib.Core.Bool.{Bool, true, false, cond}
+use mathlib.Core.Path.{_≡_, sym, ap, _∙_}
+use mathlib.Core.Bool.{true, false, cond}
 use mathlib.Core.List.{List}
 use mathlib.Core.Option.{Option, none, some}
 use Prim.Native.Nat.{ℕ, _+_, _-_, _≤_, _<_}
 use native.Mathlib.Omega.{arith}
 use lib.ListN.{length, take, drop}
 use lib.Dec.{eqb, ltb}
-use borrow.Author.Tests.{eq-eqb, ne-eqb, lt-ltb, le-ltb}
+use borrow.Author.Tests.{eq-eqb, ne-eqb, eqb-true, eqb-false, lt-ltb, le-ltb}
+use borrow.Table.Steps.{cases}
 use borrow.Rule.Slice.PartAt.{part-to-end}
 use Rattle.header.specs.declared.Header.{Header}
 use Rattle.header.specs.declared.Link.{Link}
 use Rattle.header.specs.Link.{sharedSet}
-use Rattle.header.specs.Header.{headerOf, kindOf, lengthOf, idOf, headerSize, headerNumber}
+use Rattle.header.specs.Header.{headerOf, kindOf, lengthOf, headerSize, headerNumber}
 use Rattle.header.specs.Laws.{narrow}
 use Rattle.kinds.specs.Table.{kinds, kindAt}
 use Rattle.kinds.specs.Content.{find}
 use Rattle.kinds.specs.Number.{wireNumber, byKind}
-use Rattle.kinds.specs.Codec.{contentAt, decode, readNumber}
+use Rattle.kinds.specs.Codec.{contentAt, readNumber}
 use Rattle.packet.specs.declared.Packet.{Packet}
-use Rattle.packet.specs.Packet.{shownOf, contentOf}
+use Rattle.packet.specs.Packet.{contentOf}
 use Rattle.decoder.specs.declared.Reading.{Reading}
-use Rattle.decoder.specs.declared.Reading.the-variants.{Refused, Passed}
-use Rattle.decoder.specs.Reading.{PacketTold, Told, told, partAt, kindOr, readOf}
-use Rattle.decoder.specs.Body.{ReadsBody, ReadsKind, toldBody, readBodyOf}
+use Rattle.decoder.specs.declared.Reading.the-variants.{Refused}
+use Rattle.decoder.specs.Reading.{PacketTold, Told, numbered, toldBehind, told, partAt, kindOr, contentBehind, behindOf, readOf}
+use Rattle.decoder.specs.Body.{ReadsBody, ReadsKind, misfitNumber, finished, contentIn}
+use Rattle.decoder.specs.Laws.{behind-told}
 use Rattle.kinds.specs.Slots.{found}
+use Rattle.decoder.proofs.WrongSize.{misfit-refused}
 
 abbrev telling : ℕ → Option PacketTold → Told
 telling n o = record { number = n; handed = o }
-
--- a number w, with something handed on where it is 0
-abbrev numbered : ℕ → PacketTold → Told
-numbered w x = telling w (cond (eqb w 0) (some x) none)
 
 not-handed : (n w : ℕ) (x : PacketTold) → n ≡ w → (n ≡ 0 → ⊥) → telling n none ≡ numbered w x
 not-handed n w x e z =
@@ -49,42 +49,45 @@ is-handed w x y e p =
 
 -- ---- a body of a known kind
 
-pub kind-refused : {l : Link} {h : Header} {slot : ℕ} {body : List ℕ} {n : ℕ} → n ≡ wireNumber l (contentAt (sharedSet l) (kindAt slot .number) (h .id) body) → (n ≡ 0 → ⊥)
+kind-refused : {l : Link} {h : Header} {slot : ℕ} {body : List ℕ} {n : ℕ} → n ≡ wireNumber l (contentIn l h slot body) → (n ≡ 0 → ⊥)
     → ReadsKind l h slot body (Refused n)
-kind-refused {l} {h} {slot} {body} {n} e z = record { tells = not-handed n (wireNumber l (contentAt (sharedSet l) (kindAt slot .number) (h .id) body)) _ e z }
+kind-refused {l} {h} {slot} {body} {n} e z = record { tells = not-handed n (wireNumber l (contentIn l h slot body)) _ e z }
+
+-- one of a wrong size has the number that `misfit` gives
+pub size-refused : (l : Link) (h : Header) {slot : ℕ} {body : List ℕ} {n : ℕ} → n ≡ misfitNumber l slot (h .id)
+    → wireNumber l (contentIn l h slot body) ≡ misfitNumber l slot (h .id) → ReadsKind l h slot body (Refused n)
+size-refused l h {slot} e w = kind-refused (e ∙ sym w) (λ z. misfit-refused l slot (h .id) (sym e ∙ z))
 
 -- a packet that was read has the body's number
-module _ (l : Link) (h : Header) {slot : ℕ} {body : List ℕ} {p : Packet} {n : ℕ} (r : ReadsBody (sharedSet l) slot body p)
-    (e : n ≡ wireNumber l (contentOf (sharedSet l) (h .id) p body)) where
-  of-content : n ≡ wireNumber l (contentAt (sharedSet l) (kindAt slot .number) (h .id) body)
-  of-content = e ∙ ap (wireNumber l) (r .content (h .id))
+pub packet-read : (l : Link) (h : Header) {slot : ℕ} {body : List ℕ} {p : Packet} {n : ℕ} → ReadsBody (sharedSet l) slot body p
+    → n ≡ wireNumber l (contentOf (sharedSet l) (h .id) p body) → ReadsKind l h slot body (finished h n p)
+packet-read l h {slot} {body} {p} {n} r e =
+    let c : n ≡ wireNumber l (contentIn l h slot body) = e ∙ ap (wireNumber l) (r .content (h .id)) in
+    cases (eqb n 0)
+    (λ t. rw t (record {
+      tells =
+          is-handed (wireNumber l (contentIn l h slot body)) _ _ (sym c ∙ eqb-true n 0 t)
+          (λ i. record { header = h; content = r .content (h .id) i; part = r .part i });
+    }))
+    (λ t. rw t (kind-refused c (eqb-false n 0 t)))
 
-  pub packet-refused : (n ≡ 0 → ⊥) → ReadsKind l h slot body (Refused n)
-  packet-refused z = kind-refused of-content z
+-- ---- a body behind a header
 
-  pub packet-passed : n ≡ 0 → ReadsKind l h slot body (Passed h p)
-  packet-passed z =
-      record {
-        tells =
-            is-handed (wireNumber l (contentAt (sharedSet l) (kindAt slot .number) (h .id) body)) _ _ (sym of-content ∙ z)
-            (λ i. record { header = h; content = r .content (h .id) i; part = r .part i });
-      }
+module _ (l : Link) (h : Header) (body : List ℕ) where
+  -- 20
+  pub behind-unknown : find (h .kind) kinds ≡ none → toldBehind l body (Refused 20) ≡ behindOf l h body
+  unfolding behindOf wireNumber contentAt
+  behind-unknown f = not-handed 20 (wireNumber l (contentBehind l h body)) _ (sym (λ i. byKind l (f i) (contentBehind l h body))) (λ y. omega arith)
+
+  pub behind-known : {slot : ℕ} (r : Reading) → slot < 33 → kindAt slot .number ≡ h .kind → ReadsKind l h slot body r → toldBehind l body r ≡ behindOf l h body
+  unfolding behindOf
+  behind-known {slot} r s n t =
+      let caps : ℕ = sharedSet l in
+      let f : some (kindAt slot) ≡ find (h .kind) kinds = sym (found slot s) ∙ ap (λ (m : ℕ). find m kinds) n in
+      let q : contentIn l h slot body ≡ contentBehind l h body = ap (λ (m : ℕ). contentAt caps m (h .id) body) n in
+      t .tells ∙ (λ i. numbered (wireNumber l (q i)) (record { header = h; content = q i; part = partAt caps (kindOr (f i)) (length body) }))
 
 -- ---- the bytes of one packet
-
--- what is handed on has the header that was to be handed on
-same-header : (b : Bool) (x y : PacketTold) → some x ≡ cond b (some y) none → x .header ≡ y .header
-same-header true x y e = let f : x ≡ y = cc in ap (λ (z : PacketTold). z .header) f
-same-header false x y e = let z : _≡_ {A = ℕ} 0 1 = cc in absurd (omega arith)
-
--- a reading of a body tells the same of the bytes that the body ends
-of-body : (l : Link) (bytes : List ℕ) (h : Header) (slot : ℕ) (r : Reading) → toldBody l (drop (h .size) bytes) r ≡ readBodyOf l h slot (drop (h .size) bytes)
-    → told l bytes r ≡ toldBody l (drop (h .size) bytes) r
-of-body l bytes h slot (Refused n) e = refl
-of-body l bytes h slot (Passed g p) e =
-    let w : ℕ = wireNumber l (contentAt (sharedSet l) (kindAt slot .number) (h .id) (drop (h .size) bytes)) in
-    let s : g ≡ h = same-header (eqb w 0) _ _ (ap (λ (t : Told). t .handed) e) in
-    λ i. telling 0 (some (record { header = g; content = contentOf (sharedSet l) (g .id) p (drop (s i .size) bytes); part = shownOf (sharedSet l) p .part }))
 
 -- g is the header that was read
 module _ (l : Link) (b : List ℕ) {g : Header} (same : g ≡ headerOf l b) where
@@ -119,29 +122,7 @@ module _ (l : Link) (b : List ℕ) {g : Header} (same : g ≡ headerOf l b) (lon
     length-refused d =
         not-handed 23 (readNumber l b) _ (rw (held, no-number, ne-eqb (length b) (headerSize l (kindOf b) + lengthOf b) (rw same at d))) (λ y. omega arith)
 
-    module _ (s : length b ≡ g .size + g .length) where
-      wire : readNumber l b ≡ wireNumber l (decode l b)
-      unfolding readNumber
-      wire = rw (held, no-number, eq-eqb (length b) (headerSize l (kindOf b) + lengthOf b) (rw same at s))
-
-      -- 20
-      pub kind-unknown : find (g .kind) kinds ≡ none → told l b (Refused 20) ≡ readOf l b
-      unfolding readOf wireNumber decode contentAt
-      kind-unknown f =
-          let u : find (kindOf b) kinds ≡ none = rw same at f in
-          not-handed 20 (readNumber l b) _ (sym (wire ∙ (λ i. byKind l (u i) (decode l b)))) (λ y. omega arith)
-
-      -- the body is what stands behind the header
-      pub kind-known : {slot : ℕ} {r : Reading} → slot < 33 → kindAt slot .number ≡ g .kind → ReadsKind l g slot (take (length b - g .size) (drop (g .size) b)) r
-          → told l b r ≡ readOf l b
-      unfolding readOf decode
-      kind-known {slot} {r} h k t =
-          let caps : ℕ = sharedSet l in
-          let body : List ℕ = drop (headerSize l (kindOf b)) b in
-          let n : kindAt slot .number ≡ kindOf b = rw same at k in
-          let u : ReadsKind l (headerOf l b) slot body r = rw (part-to-end, same) at t in
-          let f : some (kindAt slot) ≡ find (kindOf b) kinds = sym (found slot h) ∙ ap (λ (m : ℕ). find m kinds) n in
-          let w : wireNumber l (contentAt caps (kindAt slot .number) (idOf l b) body) ≡ readNumber l b = ap (λ (m : ℕ). wireNumber l (contentAt caps m (idOf l b) body)) n ∙ sym wire in
-          of-body l b (headerOf l b) slot r (u .tells)
-          ∙ u .tells
-          ∙ (λ i. numbered (w i) (record { header = headerOf l b; content = contentAt caps (n i) (idOf l b) body; part = partAt caps (kindOr (f i)) (length body) }))
+    -- the body is what stands behind the header
+    pub body-read : (r : Reading) → length b ≡ g .size + g .length → toldBehind l (take (length b - g .size) (drop (g .size) b)) r ≡ behindOf l g (take (length b - g .size) (drop (g .size) b))
+        → told l b r ≡ readOf l b
+    body-read r s t = behind-told l b (rw same at s) no-number r same (rw same (part-to-end b (headerSize l (kindOf b)))) t

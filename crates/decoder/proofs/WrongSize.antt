@@ -1,5 +1,5 @@
--- The number of a body that lacks a field, or has bytes behind its fields where its kind has no part, is `misfitNumber` (`misfits`), and never 0
--- (`misfit-refused`); any other body fits (`fits`).
+-- The number of a body that lacks a field (`lacks`), or has bytes behind its fields where its kind has no part, is `misfitNumber` (`misfits`), and
+-- never 0 (`misfit-refused`); any other body of a kind below 100 fits (`fits`).
 -- In either case `sizeOk` fails (`too-short`, `too-long`), so that only 21 and 22 can come before 23, and what is behind it is not asked. What is
 -- read off the wire has no field that is not shared, by induction over the fields (`none-surplus`): 22 is left for the kind's bit and the id.
 -- Assumes nothing.
@@ -93,6 +93,10 @@ module _ (l : Link) (slot id : ℕ) (body : List ℕ) (small : slot < 33) (fits 
       failing (complete (k .fields) (q .fields)) _
       (λ _. no-tail (k .tail) (l .sender) (k .fields) (q .fields) (length (q .rest)) t (λ z. let y : length body - size (shared caps) (k .fields) ≡ 0 = sym r ∙ z in omega arith))
 
+  pub lacks : length body < size (shared (sharedSet l)) (kindAt slot .fields)
+      → wireNumber l (contentAt (sharedSet l) (kindAt slot .number) id body) ≡ misfitNumber l slot id
+  lacks h = of-size (too-short h)
+
   pub misfits : (ltb (length body) (size (shared (sharedSet l)) (kindAt slot .fields)) || (not (carries (kindAt slot)) && ltb (size (shared (sharedSet l)) (kindAt slot .fields)) (length body))) ≡ true
       → wireNumber l (contentAt (sharedSet l) (kindAt slot .number) id body) ≡ misfitNumber l slot id
   misfits h =
@@ -116,7 +120,7 @@ misfit-refused l slot id e =
 -- ---- a body that fits
 
 -- neither holds: all fields are there, and nothing behind them where the kind has no part
-pub fits : (caps slot : ℕ) (body : List ℕ) → slot < 33
+pub fits : (caps slot : ℕ) (body : List ℕ) → slot < 28
     → (ltb (length body) (size (shared caps) (kindAt slot .fields)) || (not (carries (kindAt slot)) && ltb (size (shared caps) (kindAt slot .fields)) (length body))) ≡ false
     → Fits caps slot body
 fits caps slot body small h =

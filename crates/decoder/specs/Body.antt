@@ -4,7 +4,6 @@ use Prim.Native.Nat.{ℕ, _+_, _*_, _≤_, _<_}
 use mathlib.Core.Path.{_≡_}
 use mathlib.Core.Bool.{true, false, cond, not, _&&_, _||_}
 use mathlib.Core.List.{List}
-use mathlib.Core.Option.{none, some}
 use lib.ListN.{length}
 use lib.Dec.{eqb, leb}
 use Rattle.number.specs.Little.{le}
@@ -13,21 +12,21 @@ use Rattle.header.specs.declared.Header.{Header}
 use Rattle.header.specs.declared.Link.{Link}
 use Rattle.header.specs.Link.{sharedSet}
 use Rattle.kinds.specs.Table.{kindAt}
-use Rattle.kinds.specs.Content.{shared, size}
+use Rattle.kinds.specs.Content.{Content, shared, size}
 use Rattle.kinds.specs.Number.{sends, inOrder, wireNumber}
 use Rattle.kinds.specs.Codec.{contentAt}
 use Rattle.packet.specs.declared.Packet.{Packet}
 use Rattle.packet.specs.Packet.{shownOf, contentOf}
 use Rattle.decoder.specs.declared.Reading.{Reading}
-use Rattle.decoder.specs.Reading.{Told, carries, partAt}
 use Rattle.decoder.specs.declared.Reading.the-variants.{Refused, Passed}
+use Rattle.decoder.specs.Reading.{Told, numbered, toldBehind, carries, partAt}
 
 abbrev pub bulkCount : ℕ → List ℕ → ℕ
 bulkCount caps body = cond (hasBit caps 6) (le 2 body 2 + 65536 * le 2 body 8) (le 2 body 2)
 
--- all fields are there, and nothing behind them where the kind has no part
+-- of a kind below 100 all fields are there, and nothing behind them where the kind has no part
 pub record Fits (caps slot : ℕ) (body : List ℕ) : Type 0 where
-  pub small : slot < 33
+  pub small : slot < 28
   pub there : size (shared caps) (kindAt slot .fields) ≤ length body
   pub exact : carries (kindAt slot) ≡ false → length body ≡ size (shared caps) (kindAt slot .fields)
 
@@ -43,24 +42,18 @@ misfitNumber l slot id =
     (not (shared (sharedSet l) (kindAt slot .needs)) || (not (eqb slot 0) && not (hasBit (sharedSet l) 5) && leb 4294967296 id))
     true false false
 
--- what a reading of a body of a known kind tells
-abbrev pub toldBody : Link → List ℕ → Reading → Told
-toldBody l body (Refused n) = record { number = n; handed = none }
-toldBody l body (Passed h p) =
-    record {
-      number = 0;
-      handed = some (record { header = h; content = contentOf (sharedSet l) (h .id) p body; part = shownOf (sharedSet l) p .part });
-    }
+-- a packet with its number
+abbrev pub finished : Header → ℕ → Packet → Reading
+finished h n p = cond (eqb n 0) (Passed h p) (Refused n)
+
+-- what a reading of a body of a known kind has to tell
+abbrev pub contentIn : Link → Header → ℕ → List ℕ → Content
+contentIn l h slot body = contentAt (sharedSet l) (kindAt slot .number) (h .id) body
 
 abbrev pub readBodyOf : Link → Header → ℕ → List ℕ → Told
 readBodyOf l h slot body =
-    record {
-      number = wireNumber l (contentAt (sharedSet l) (kindAt slot .number) (h .id) body);
-      handed =
-          cond (eqb (wireNumber l (contentAt (sharedSet l) (kindAt slot .number) (h .id) body)) 0)
-          (some (record { header = h; content = contentAt (sharedSet l) (kindAt slot .number) (h .id) body; part = partAt (sharedSet l) (kindAt slot) (length body) }))
-          none;
-    }
+    numbered (wireNumber l (contentIn l h slot body))
+    (record { header = h; content = contentIn l h slot body; part = partAt (sharedSet l) (kindAt slot) (length body) })
 
 pub record ReadsKind (l : Link) (h : Header) (slot : ℕ) (body : List ℕ) (r : Reading) : Type 0 where
-  pub tells : toldBody l body r ≡ readBodyOf l h slot body
+  pub tells : toldBehind l body r ≡ readBodyOf l h slot body

@@ -13,7 +13,8 @@ use Rattle.header.specs.Link.{sharedSet}
 use Rattle.header.specs.Header.{headerOf, kindOf, headerSize}
 use Rattle.kinds.specs.Table.{Field, Tail, nothing, words, string, payload, payload-onward, Kind, kinds, none-such}
 use Rattle.kinds.specs.Content.{Content, shared, size, find}
-use Rattle.kinds.specs.Codec.{decode, readNumber}
+use Rattle.kinds.specs.Number.{wireNumber}
+use Rattle.kinds.specs.Codec.{contentAt, decode, readNumber}
 use Rattle.packet.specs.declared.Part.{Part}
 use Rattle.packet.specs.Packet.{shownOf, contentOf}
 use Rattle.decoder.specs.declared.Reading.{Reading}
@@ -29,14 +30,23 @@ pub record Told : Type 0 where
   pub number : ℕ
   pub handed : Option PacketTold
 
--- a packet's body stands behind its header
-abbrev pub told : Link → List ℕ → Reading → Told
-told l bytes (Refused n) = record { number = n; handed = none }
-told l bytes (Passed h p) =
+-- a number, with what is handed on where it is 0
+abbrev pub numbered : ℕ → PacketTold → Told
+numbered n x = record { number = n; handed = cond (eqb n 0) (some x) none }
+
+-- of a body behind a header
+abbrev pub toldBehind : Link → List ℕ → Reading → Told
+toldBehind l body (Refused n) = record { number = n; handed = none }
+toldBehind l body (Passed h p) =
     record {
       number = 0;
-      handed = some (record { header = h; content = contentOf (sharedSet l) (h .id) p (drop (h .size) bytes); part = shownOf (sharedSet l) p .part });
+      handed = some (record { header = h; content = contentOf (sharedSet l) (h .id) p body; part = shownOf (sharedSet l) p .part });
     }
+
+-- of a packet's bytes: its body stands behind its header
+abbrev pub told : Link → List ℕ → Reading → Told
+told l bytes (Refused n) = record { number = n; handed = none }
+told l bytes (Passed h p) = toldBehind l (drop (h .size) bytes) (Passed h p)
 
 -- ---- the part of the body that a packet of a kind names
 
@@ -68,14 +78,17 @@ kindOr (some k) = k
 abbrev pub partOf : Link → List ℕ → Part
 partOf l bytes = partAt (sharedSet l) (kindOr (find (kindOf bytes) kinds)) (length (drop (headerSize l (kindOf bytes)) bytes))
 
--- ---- what reading bytes has to tell
+-- ---- what reading has to tell
 
+-- of a body behind a header, whose kind and id it goes by
+abbrev pub contentBehind : Link → Header → List ℕ → Content
+contentBehind l h body = contentAt (sharedSet l) (h .kind) (h .id) body
+
+unfoldable pub behindOf : Link → Header → List ℕ → Told
+behindOf l h body =
+    numbered (wireNumber l (contentBehind l h body))
+    (record { header = h; content = contentBehind l h body; part = partAt (sharedSet l) (kindOr (find (h .kind) kinds)) (length body) })
+
+-- of a packet's bytes
 unfoldable pub readOf : Link → List ℕ → Told
-readOf l bytes =
-    record {
-      number = readNumber l bytes;
-      handed =
-          cond (eqb (readNumber l bytes) 0)
-          (some (record { header = headerOf l bytes; content = decode l bytes; part = partOf l bytes }))
-          none;
-    }
+readOf l bytes = numbered (readNumber l bytes) (record { header = headerOf l bytes; content = decode l bytes; part = partOf l bytes })

@@ -1,12 +1,12 @@
 // Reading: the bytes of one whole packet to its number or its packet.
 ghost use mathlib.Core.Path.{_≡_};
-ghost use Prim.Native.Nat.{_<_, _^_};
+ghost use Prim.Native.Nat.{_≤_, _<_, _^_};
 ghost use lib.ListN.{length};
 ghost use Rattle.number.specs.Little.{le};
 ghost use Rattle.kinds.specs.Table.{kindAt};
 ghost use Rattle.packet.specs.Packet.{optional16Of};
-ghost use Rattle.decoder.specs.Reading.{told, readOf, carries};
-ghost use Rattle.decoder.specs.Body.{Fits, ReadsBody, ReadsKind, bulkCount, misfitNumber};
+ghost use Rattle.decoder.specs.Reading.{toldBehind, told, behindOf, readOf, carries};
+ghost use Rattle.decoder.specs.Body.{Fits, ReadsBody, ReadsKind, bulkCount, misfitNumber, finished};
 use endpoint::Endpoint;
 use header::Header;
 use header::Link;
@@ -25,8 +25,13 @@ use packet::Optional16;
 use packet::Packet;
 use packet::Part;
 use packet::given16;
+use rules::buffered_number;
+use rules::bulk_number;
+use rules::control_number;
 use rules::in_order;
+use rules::interrupt_number;
 use rules::is_wide;
+use rules::iso_number;
 use rules::wire_number;
 
 // The number by which the bytes are refused, or the header and the packet that they are.
@@ -63,15 +68,15 @@ fn bulk_count(caps: u32, body: &[u8]) -> u32
     }
 }
 
-// The kind has a part of the body behind the fields that its packet holds as numbers.
+// The kind, below 100, has a part of the body behind the fields that its packet holds as numbers.
 fn has_part(slot: usize) -> bool
-    requires { ⌜ slot < 33 ⌝ }
+    requires { ⌜ slot < 28 ⌝ }
     ensures { λ r. ⌜ r ≡ carries (kindAt slot) ⌝ }
 {
-    (slot == 0) | (slot == 4) | (slot == 5) | (slot == 23) | (28 <= slot)
+    (slot == 0) | (slot == 4) | (slot == 5) | (slot == 23)
 }
 
-// A body whose fields are all there, read by its kind.
+// A body whose fields are all there, read by its kind, which is below 100.
 fn read_body(caps: u32, slot: usize, body: &[u8]) -> Packet
     requires { ⌜ Fits caps slot (now body) ⌝ }
     ensures { λ r. ⌜ ReadsBody caps slot (now (body .entry)) r ⌝ }
@@ -170,46 +175,10 @@ fn read_body(caps: u32, slot: usize, body: &[u8]) -> Packet
             stream: get32(body, 0),
             endpoint: Endpoint(get8(body, 4)),
         },
-        27 => Packet::BulkReceivingStatus {
+        _ => Packet::BulkReceivingStatus {
             stream: get32(body, 0),
             endpoint: Endpoint(get8(body, 4)),
             status: get8(body, 5),
-        },
-        28 => Packet::Control {
-            endpoint: Endpoint(get8(body, 0)),
-            request: get8(body, 1),
-            requesttype: get8(body, 2),
-            status: get8(body, 3),
-            value: get16(body, 4),
-            index: get16(body, 6),
-            length: get16(body, 8),
-            data: after(body, 10),
-        },
-        29 => Packet::Bulk {
-            endpoint: Endpoint(get8(body, 0)),
-            status: get8(body, 1),
-            length: bulk_count(caps, body),
-            stream: get32(body, 4),
-            data: after(body, choose(has_bit(caps, 6), 10, 8)),
-        },
-        30 => Packet::Iso {
-            endpoint: Endpoint(get8(body, 0)),
-            status: get8(body, 1),
-            length: get16(body, 2),
-            data: after(body, 4),
-        },
-        31 => Packet::Interrupt {
-            endpoint: Endpoint(get8(body, 0)),
-            status: get8(body, 1),
-            length: get16(body, 2),
-            data: after(body, 4),
-        },
-        _ => Packet::BufferedBulk {
-            stream: get32(body, 0),
-            length: get32(body, 4),
-            endpoint: Endpoint(get8(body, 8)),
-            status: get8(body, 9),
-            data: after(body, 10),
         },
     }
 }
@@ -230,9 +199,20 @@ fn misfit(l: Link, slot: usize, id: u64) -> u8
     )
 }
 
-// A body of a known kind behind its header.
+// A packet with its number: it passes where that is 0.
+fn finish(h: Header, number: u8, p: Packet) -> Reading
+    ensures { λ r. ⌜ r ≡ finished h number p ⌝ }
+{
+    if number == 0 {
+        Reading::Passed(h, p)
+    } else {
+        Reading::Refused(number)
+    }
+}
+
+// A body of a kind below 100 behind its header.
 fn read_kind(l: Link, h: Header, slot: usize, body: &[u8]) -> Reading
-    requires { ⌜ slot < 33 ⌝ }
+    requires { ⌜ slot < 28 ⌝ }
     ensures { λ r. ⌜ ReadsKind l h slot (now (body .entry)) r ⌝ }
 {
     let caps = shared_set(l);
@@ -243,11 +223,158 @@ fn read_kind(l: Link, h: Header, slot: usize, body: &[u8]) -> Reading
         return Reading::Refused(misfit(l, slot, id));
     }
     let p = read_body(caps, slot, body);
-    let number = wire_number(l, id, p, body);
-    if number == 0 {
-        Reading::Passed(h, p)
-    } else {
-        Reading::Refused(number)
+    finish(h, wire_number(l, id, p, body), p)
+}
+
+// A body of each kind with data behind its header. Its packet is judged by its own fields, with no `match` over all kinds.
+fn read_control(l: Link, h: Header, body: &[u8]) -> Reading
+    ensures { λ r. ⌜ ReadsKind l h 28 (now (body .entry)) r ⌝ }
+{
+    if body.len() < 10 {
+        return Reading::Refused(misfit(l, 28, h.id));
+    }
+    let endpoint = Endpoint(get8(body, 0));
+    let request = get8(body, 1);
+    let requesttype = get8(body, 2);
+    let status = get8(body, 3);
+    let value = get16(body, 4);
+    let index = get16(body, 6);
+    let length = get16(body, 8);
+    let data = after(body, 10);
+    finish(
+        h,
+        control_number(l, h.id, endpoint, requesttype, status, length, data, body),
+        Packet::Control {
+            endpoint,
+            request,
+            requesttype,
+            status,
+            value,
+            index,
+            length,
+            data,
+        },
+    )
+}
+
+fn read_bulk(l: Link, h: Header, body: &[u8]) -> Reading
+    ensures { λ r. ⌜ ReadsKind l h 29 (now (body .entry)) r ⌝ }
+{
+    let caps = shared_set(l);
+    let head = choose(has_bit(caps, 6), 10, 8);
+    if body.len() < head {
+        return Reading::Refused(misfit(l, 29, h.id));
+    }
+    let endpoint = Endpoint(get8(body, 0));
+    let status = get8(body, 1);
+    let length = bulk_count(caps, body);
+    let stream = get32(body, 4);
+    let data = after(body, head);
+    finish(
+        h,
+        bulk_number(l, h.id, endpoint, status, length, stream, data, body),
+        Packet::Bulk {
+            endpoint,
+            status,
+            length,
+            stream,
+            data,
+        },
+    )
+}
+
+fn read_iso(l: Link, h: Header, body: &[u8]) -> Reading
+    ensures { λ r. ⌜ ReadsKind l h 30 (now (body .entry)) r ⌝ }
+{
+    if body.len() < 4 {
+        return Reading::Refused(misfit(l, 30, h.id));
+    }
+    let endpoint = Endpoint(get8(body, 0));
+    let status = get8(body, 1);
+    let length = get16(body, 2);
+    let data = after(body, 4);
+    finish(
+        h,
+        iso_number(l, h.id, endpoint, status, length, data, body),
+        Packet::Iso {
+            endpoint,
+            status,
+            length,
+            data,
+        },
+    )
+}
+
+fn read_interrupt(l: Link, h: Header, body: &[u8]) -> Reading
+    ensures { λ r. ⌜ ReadsKind l h 31 (now (body .entry)) r ⌝ }
+{
+    if body.len() < 4 {
+        return Reading::Refused(misfit(l, 31, h.id));
+    }
+    let endpoint = Endpoint(get8(body, 0));
+    let status = get8(body, 1);
+    let length = get16(body, 2);
+    let data = after(body, 4);
+    finish(
+        h,
+        interrupt_number(l, h.id, endpoint, status, length, data, body),
+        Packet::Interrupt {
+            endpoint,
+            status,
+            length,
+            data,
+        },
+    )
+}
+
+fn read_buffered(l: Link, h: Header, body: &[u8]) -> Reading
+    ensures { λ r. ⌜ ReadsKind l h 32 (now (body .entry)) r ⌝ }
+{
+    if body.len() < 10 {
+        return Reading::Refused(misfit(l, 32, h.id));
+    }
+    let stream = get32(body, 0);
+    let length = get32(body, 4);
+    let endpoint = Endpoint(get8(body, 8));
+    let status = get8(body, 9);
+    let data = after(body, 10);
+    finish(
+        h,
+        buffered_number(l, h.id, length, endpoint, status, data, body),
+        Packet::BufferedBulk {
+            stream,
+            length,
+            endpoint,
+            status,
+            data,
+        },
+    )
+}
+
+// A body of kinds 100 to 104 behind its header.
+fn read_data(l: Link, h: Header, body: &[u8]) -> Reading
+    requires { ⌜ (100 ≤ h .kind) × (h .kind ≤ 104) ⌝ }
+    ensures { λ r. ⌜ toldBehind l (now (body .entry)) r ≡ behindOf l h (now (body .entry)) ⌝ }
+{
+    let kind = h.kind;
+    match kind {
+        100 => read_control(l, h, body),
+        101 => read_bulk(l, h, body),
+        102 => read_iso(l, h, body),
+        103 => read_interrupt(l, h, body),
+        _ => read_buffered(l, h, body),
+    }
+}
+
+// The packet behind a header: its kind and id are the header's, whose length is not looked at.
+pub fn read_behind(l: Link, h: Header, body: &[u8]) -> Reading
+    ensures { λ r. ⌜ toldBehind l (now (body .entry)) r ≡ behindOf l h (now (body .entry)) ⌝ }
+{
+    let kind = h.kind;
+    match kind {
+        0..=27 => read_kind(l, h, kind as usize, body),
+        100..=104 => read_data(l, h, body),
+        _ => Reading::Refused(20),
     }
 }
 
@@ -270,10 +397,5 @@ pub fn read(l: Link, bytes: &[u8]) -> Reading
     if bytes.len() != size + length {
         return Reading::Refused(23);
     }
-    let body = &bytes[size..];
-    match kind {
-        0..=27 => read_kind(l, h, kind as usize, body),
-        100..=104 => read_kind(l, h, (kind - 72) as usize, body),
-        _ => Reading::Refused(20),
-    }
+    read_behind(l, h, &bytes[size..])
 }

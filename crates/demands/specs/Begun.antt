@@ -13,7 +13,7 @@ use lib.Bits.{bitAnd, and-zero-l, and-zero-r}
 use lib.ListN.{length, take}
 use lib.Seq.{sets, length-sets}
 use lib.Dec.{eqb, ltb}
-use borrow.Author.Tests.{eqb-true, le-ltb}
+use borrow.Author.Tests.{eqb-true, eqb-false, le-ltb}
 use borrow.Table.Steps.{cases}
 use Rattle.number.specs.Bits.{hasBit}
 use Rattle.number.specs.Laws.{take-sets}
@@ -27,22 +27,22 @@ use Rattle.header.specs.Header.{kindOf, lengthOf, headerSize, headerNumber}
 use Rattle.kinds.specs.Content.{Content}
 use Rattle.kinds.specs.Number.{wireNumber}
 use Rattle.kinds.specs.Codec.{decode, readNumber}
-use Rattle.device.specs.Device.{controlRows}
+use Rattle.device.specs.Device.{startHead, controlRows}
 use Rattle.requests.specs.Requests.{idsDiffer}
-use Rattle.events.specs.declared.Event.{Event}
-use Rattle.events.specs.Event.{eventOf}
+use Rattle.events.specs.Event.{Event, eventOf}
 use Rattle.session.specs.declared.Session.{Session}
 use Rattle.session.specs.Session.{freshSession, linkOf, unfit}
-use Rattle.session.specs.Step.{isHello, nextFor, judged}
+use Rattle.session.specs.Step.{judged}
 use Rattle.claims.specs.Allowed.{among}
-use Rattle.claims.specs.Steps.{step}
-use Rattle.claims.specs.Kept.{Sized, kept-ids, kept-control, event-control, kept-lengths, kept-hellos, kept-plain, start-fit, start-sized}
-use Rattle.roundtrip.specs.Cut.{Cut, more, bad, whole, cutOf}
-use Rattle.roundtrip.specs.Prefix.{cut-none}
-use Rattle.wire.specs.Wire.{usbredir, laws}
+use Rattle.claims.specs.Steps.{refused}
+use Rattle.claims.specs.Kept.{kept-ids, kept-control, event-control, kept-hellos, kept-plain, start-fit}
+use Rattle.claims.specs.Moves.{Moved, moves}
+use Rattle.frame.specs.Cut.{Cut, more, bad, whole, cutOf}
+use Rattle.wire.specs.Prefix.{cut-none}
+use Rattle.wire.specs.Usbredir.{usbredir, laws}
 use Rattle.frame.specs.Frame.{cutAt, completed}
-use Rattle.verdict.specs.Verdict.{stoppedNow, refusedAs, verdictOf}
-use Rattle.gate.specs.Offer.{heldOf, heldAs, heldBytes, isWaiting, barred, byCut, offerOf}
+use Rattle.gate.specs.Verdict.{heldOf, heldAs, stoppedNow, refusedAs, verdictOf}
+use Rattle.gate.specs.Offer.{heldBytes, isWaiting, barred, byCut, offerOf}
 use Rattle.gate.specs.Write.{shut, writeBy}
 use Rattle.gate.specs.Laws.{FitCount, Fit, fit-is, is-fit, completed-length, more-few, Ready, ready}
 use Rattle.demands.specs.Numbers.{write-numbers}
@@ -52,14 +52,13 @@ use Rattle.demands.specs.Calls.{Unfinished, header-ends}
 use Rattle.demands.specs.Demand3.{State, Starts}
 
 abbrev pub helloBy : Side → Session → Hello
-helloBy Guest s = s .guest
-helloBy Host s = s .host
+helloBy Guest s = s .head .guest
+helloBy Host s = s .head .host
 
 -- what 41 and 43 ask
 pub record Left (x : Both) : Type 0 where
   pub room : (d : Side) → 32784 ≤ length (x .hold d)
   pub fit : Fit (x .session)
-  pub sized : Sized (x .session)
   pub unfinished : (d : Side) → Unfinished d (x .session) (x .hold d)
 
 -- ---- what a header is, where the sender's hello has not passed
@@ -75,8 +74,8 @@ cut-by l m b p q = λ i. cutOf (λ c. 8 + p (kindOf c) i) (λ c. q (kindOf c) (l
 -- nothing is shared then, whatever the other's hello is
 shared-none : (e : Side) (s : Session) → helloBy e s ≡ Awaited → sharedSet (linkOf e s) ≡ 0
 unfolding sharedSet
-shared-none Guest s q = ap (λ (h : Hello). bitAnd (offered h) (offered (s .host))) q ∙ and-zero-l (offered (s .host))
-shared-none Host s q = ap (λ (h : Hello). bitAnd (offered (s .guest)) (offered h)) q ∙ and-zero-r (offered (s .guest))
+shared-none Guest s q = ap (λ (h : Hello). bitAnd (offered h) (offered (s .head .host))) q ∙ and-zero-l (offered (s .head .host))
+shared-none Host s q = ap (λ (h : Hello). bitAnd (offered (s .head .guest)) (offered h)) q ∙ and-zero-r (offered (s .head .guest))
 
 width-none : (l : Link) → sharedSet l ≡ 0 → (k : ℕ) → idWidth l k ≡ cond (not (eqb k 0) && hasBit 0 5) 8 4
 unfolding idWidth
@@ -106,9 +105,8 @@ pub record Next (d : Side) (s t : Session) (hold : List ℕ) : Type 0 where
   count : heldOf (opposite d) t ≡ heldOf (opposite d) s
   few : heldOf d t ≤ 32783
   none-waiting : passed (helloBy d t) ≡ true → passed (helloBy (opposite d) t) ≡ false → heldOf d t ≡ 0
-  ids : idsDiffer (t .requests .places) ≡ true
-  control : controlRows (t .device .rows) ≡ true
-  sized : Sized t
+  ids : idsDiffer (t .requests) ≡ true
+  control : controlRows (t .rows) ≡ true
   unfinished : Unfinished d t hold
 
 -- a hello that has not passed afterwards had not before
@@ -154,7 +152,6 @@ left-next x Guest t hold h n =
             ids = n .ids;
             control = n .control;
           };
-      sized = n .sized;
       unfinished = cuts;
     }
   where
@@ -179,7 +176,6 @@ left-next x Host t hold h n =
             ids = n .ids;
             control = n .control;
           };
-      sized = n .sized;
       unfinished = cuts;
     }
   where
@@ -213,7 +209,6 @@ module _ (x : Both) (d : Side) (piece : List ℕ) (h : Left x) where
         none-waiting = counts d .none-waiting;
         ids = h .fit .ids;
         control = h .fit .control;
-        sized = h .sized;
         unfinished = h .unfinished d;
       }
 
@@ -244,14 +239,13 @@ module _ (x : Both) (d : Side) (piece : List ℕ) (h : Left x) where
         none-waiting = λ p q. absurd (not-waiting d r (sym (ap passed (hello-as d d _)) ∙ p) (sym (ap passed (hello-as d (opposite d) _)) ∙ q));
         ids = h .fit .ids;
         control = h .fit .control;
-        sized = record { places = h .sized .places; rows = h .sized .rows };
         unfinished = ap (λ (k : ℕ). cutAt (linkOf d s) (take k (sets (x .hold d) (heldOf d s) piece))) m ∙ ap (cutAt (linkOf d s)) (take-sets (x .hold d) piece (heldOf d s) (omega (arith, r .room))) ∙ e;
       }
 
   -- a call after which nothing is held in the direction
-  ended-next : (t : Session) (size : ℕ) → t .held ≡ heldAs d 0 s .held → helloBy (opposite d) t ≡ helloBy (opposite d) s → (passed (helloBy d s) ≡ true → helloBy d t ≡ helloBy d s)
-      → idsDiffer (t .requests .places) ≡ true → controlRows (t .device .rows) ≡ true → Sized t → Next d s t (completed (x .hold d) (heldOf d s) piece size)
-  ended-next t size q o k i c z =
+  ended-next : (t : Session) (size : ℕ) → t .head .held ≡ heldAs d 0 s .head .held → helloBy (opposite d) t ≡ helloBy (opposite d) s → (passed (helloBy d s) ≡ true → helloBy d t ≡ helloBy d s)
+      → idsDiffer (t .requests) ≡ true → controlRows (t .rows) ≡ true → Next d s t (completed (x .hold d) (heldOf d s) piece size)
+  ended-next t size q o k i c =
       let m : heldOf d t ≡ 0 = same-held d (heldAs d 0 s) t q ∙ held-as d s 0 in
       record {
         room = subst (λ (n : ℕ). 32784 ≤ n) (sym (completed-length (x .hold d) piece (heldOf d s) size)) (h .room d);
@@ -262,50 +256,46 @@ module _ (x : Both) (d : Side) (piece : List ℕ) (h : Left x) where
         none-waiting = λ _ _. m;
         ids = i;
         control = c;
-        sized = z;
         unfinished = ap (λ (n : ℕ). cutAt (linkOf d t) (take n (completed (x .hold d) (heldOf d s) piece size))) m ∙ cut-none usbredir laws (linkOf d t);
       }
 
   header-next : (size : ℕ) → Next d s (stoppedNow (heldAs d 0 s)) (completed (x .hold d) (heldOf d s) piece size)
   header-next size =
-      ended-next (stoppedNow (heldAs d 0 s)) size refl (stopped-hello (opposite d)) (λ _. stopped-hello d) (h .fit .ids) (h .fit .control) (record { places = h .sized .places; rows = h .sized .rows })
+      ended-next (stoppedNow (heldAs d 0 s)) size refl (stopped-hello (opposite d)) (λ _. stopped-hello d) (h .fit .ids) (h .fit .control)
     where
       stopped-hello : (e : Side) → helloBy e (stoppedNow (heldAs d 0 s)) ≡ helloBy e s
       stopped-hello Guest = refl
       stopped-hello Host = refl
 
-  -- the other's hello is not touched by a packet
-  other-hello : (d : Side) (p : Content) → helloBy (opposite d) (judged (heldAs d 0 s) (eventOf d p) .session) ≡ helloBy (opposite d) s
-  unfolding nextFor eventOf
-  other-hello Guest p =
-      step (heldAs Guest 0 s) (eventOf Guest p) (λ (t : Session). t .host ≡ s .host) refl
-      (λ z. rw (and-false (isHello (eventOf Guest p .class))))
-  other-hello Host p =
-      step (heldAs Host 0 s) (eventOf Host p) (λ (t : Session). t .guest ≡ s .guest) refl
-      (λ z. rw (and-false (isHello (eventOf Host p .class))))
+  -- the other's hello is not touched by a packet: one that is refused leaves the session, and one that passes moves no hello but its sender's
+  other-hello : (d : Side) (p : Content) → wireNumber (linkOf d s) p ≡ 0 → helloBy (opposite d) (judged (heldAs d 0 s) (eventOf d p) .session) ≡ helloBy (opposite d) s
+  other-hello d p w =
+      cases (eqb (judged (heldAs d 0 s) (eventOf d p) .number) 0)
+      (λ t. other d (moves (heldAs d 0 s) d p w (eqb-true _ _ t)))
+      (λ t. ap (helloBy (opposite d)) (refused (heldAs d 0 s) (eventOf d p) (eqb-false _ _ t)) ∙ hello-as d (opposite d) 0)
+    where
+      other : (d : Side) {t : Session} → Moved (heldAs d 0 s) d p t → helloBy (opposite d) t ≡ helloBy (opposite d) s
+      other Guest m = m .host ∙ rw (and-false (eqb (p .kind) 0))
+      other Host m = m .guest ∙ rw (and-false (eqb (p .kind) 0))
 
   own-hello : (d : Side) (p : Content) → passed (helloBy d s) ≡ true → helloBy d (judged (heldAs d 0 s) (eventOf d p) .session) ≡ helloBy d s
   own-hello Guest p q = kept-hellos (heldAs Guest 0 s) (eventOf Guest p) .guest q
   own-hello Host p q = kept-hellos (heldAs Host 0 s) (eventOf Host p) .host q
 
-  zero-sized : Sized (heldAs d 0 s)
-  zero-sized = record { places = h .sized .places; rows = h .sized .rows }
-
   -- a whole packet
   passed-next : (n : ℕ) (p : Content) → wireNumber (linkOf d s) p ≡ 0 → Next d s (judged (heldAs d 0 s) (eventOf d p) .session) (completed (x .hold d) (heldOf d s) piece n)
   passed-next n p w =
       let e : Event = eventOf d p in
-      ended-next (judged (heldAs d 0 s) e .session) n (kept-plain (heldAs d 0 s) e .held) (other-hello d p) (own-hello d p)
+      ended-next (judged (heldAs d 0 s) e .session) n (kept-plain (heldAs d 0 s) e .held) (other-hello d p w) (own-hello d p)
       (kept-ids (heldAs d 0 s) e (h .fit .ids))
       (kept-control (heldAs d 0 s) e (h .fit .control) (event-control (linkOf d s) p w))
-      (kept-lengths (heldAs d 0 s) e zero-sized)
 
   refused-next : (n kind : ℕ) → Next d s (refusedAs (heldAs d 0 s) kind) (completed (x .hold d) (heldOf d s) piece n)
   refused-next n kind = go (eqb kind 0)
     where
       go : (b : Bool) → Next d s (cond b (stoppedNow (heldAs d 0 s)) (heldAs d 0 s)) (completed (x .hold d) (heldOf d s) piece n)
       go true = header-next n
-      go false = ended-next (heldAs d 0 s) n refl (hello-as d (opposite d) 0) (λ _. hello-as d d 0) (h .fit .ids) (h .fit .control) zero-sized
+      go false = ended-next (heldAs d 0 s) n refl (hello-as d (opposite d) 0) (λ _. hello-as d d 0) (h .fit .ids) (h .fit .control)
 
   whole-next : (n : ℕ) → cutAt (linkOf d s) (heldBy x d ++ piece) ≡ whole n
       → Next d s (verdictOf (heldAs d 0 s) d (take n (heldBy x d ++ piece)) .session) (completed (x .hold d) (heldOf d s) piece n)
@@ -342,8 +332,8 @@ abbrev pub begun : (Side → List ℕ) → Both
 begun hold = record { session = freshSession; hold = hold }
 
 begun-left : (hold : Side → List ℕ) → ((d : Side) → 32784 ≤ length (hold d)) → Left (begun hold)
-unfolding freshSession
-begun-left hold room = record { room = room; fit = fit-is freshSession start-fit; sized = start-sized; unfinished = empty }
+unfolding freshSession startHead
+begun-left hold room = record { room = room; fit = fit-is freshSession start-fit; unfinished = empty }
   where
     empty : (d : Side) → Unfinished d freshSession (hold d)
     empty Guest = cut-none usbredir laws (linkOf Guest freshSession)
@@ -362,7 +352,7 @@ ends-fit n h =
 
 left-barred : (x : Both) (d : Side) → Left x → refusedState (barred d (x .session) (x .hold d)) ≡ false
 unfolding barred
-left-barred x d h = rw (le-ltb (length (x .hold d)) 32784 (h .room d), is-fit (x .session) (h .fit), h .unfinished d) (go (x .session .stopped) (isWaiting (linkOf d (x .session))))
+left-barred x d h = rw (le-ltb (length (x .hold d)) 32784 (h .room d), is-fit (x .session) (h .fit), h .unfinished d) (go (x .session .head .stopped) (isWaiting (linkOf d (x .session))))
   where
     go : (a b : Bool) → refusedState (cond a 3 (cond b 2 0)) ≡ false
     go true b = refl
@@ -392,7 +382,7 @@ fit-written : (d : Side) (s : Session) (p : Content) (room : ℕ) → unfit s �
 unfolding shut
 fit-written d s p room e =
     write-numbers (λ m. m ≡ 43 → ⊥) ((λ z. omega arith), ((λ z. omega arith), ((λ z. omega arith), ((λ z. omega arith), tt)))) ((λ z. omega arith), ((λ z. omega arith), ((λ z. omega arith), ((λ z. omega arith), ((λ z. omega arith), ((λ z. omega arith), ((λ z. omega arith), tt))))))) (λ z. omega arith) d s p room
-    (rw e (other (s .stopped) (isWaiting (linkOf d s) && not (eqb (p .kind) 0))))
+    (rw e (other (s .head .stopped) (isWaiting (linkOf d s) && not (eqb (p .kind) 0))))
   where
     other : (a b : Bool) → _≡_ {A = ℕ} (cond a 3 (cond b 2 0)) 43 → ⊥
     other true b z = omega arith
@@ -412,7 +402,7 @@ stateOf d x = record { session = x .session; hold = x .hold d; other = x .hold (
 
 -- after any calls, where the session isn't stopped, both hellos have passed and the direction is "at a packet's start"
 pub begun-starts : (hold : Side → List ℕ) → ((d : Side) → 32784 ≤ length (hold d)) → (cs : List Call) (d : Side)
-    → final (begun hold) cs .session .stopped ≡ false → passed (final (begun hold) cs .session .guest) ≡ true → passed (final (begun hold) cs .session .host) ≡ true
+    → final (begun hold) cs .session .head .stopped ≡ false → passed (final (begun hold) cs .session .head .guest) ≡ true → passed (final (begun hold) cs .session .head .host) ≡ true
     → heldOf d (final (begun hold) cs .session) ≡ 0 → Starts d (stateOf d (final (begun hold) cs))
 begun-starts hold room cs d running guest host none =
     let l : Left (final (begun hold) cs) = left-kept (begun hold) cs (begun-left hold room) in

@@ -34,12 +34,12 @@ use Rattle.checks.specs.Checks.{firstOf}
 use Rattle.claims.specs.Allowed.{among}
 use Rattle.claims.specs.Number.{checksBy}
 use Rattle.claims.specs.Kept.{kept-plain}
-use Rattle.roundtrip.specs.Cut.{Cut, more, bad, whole}
-use Rattle.roundtrip.specs.Told.{IsBad, bad-is, whole-is, whole-fits}
-use Rattle.wire.specs.Wire.{usbredir, laws, hello-fields}
+use Rattle.frame.specs.Cut.{Cut, more, bad, whole}
+use Rattle.wire.specs.Told.{IsBad, bad-is, whole-is, whole-fits}
+use Rattle.wire.specs.Usbredir.{usbredir, laws, hello-fields}
 use Rattle.frame.specs.Frame.{headSize, headNumber, cutAt, completed, placeFor, bytesAt}
-use Rattle.verdict.specs.Verdict.{stoppedNow, refusedAs, verdictOf}
-use Rattle.gate.specs.Offer.{heldOf, heldAs, heldBytes, isWaiting, heldWhole, barred, Outcome, byCut, offerOf, Whole}
+use Rattle.gate.specs.Verdict.{heldOf, heldAs, stoppedNow, refusedAs, verdictOf}
+use Rattle.gate.specs.Offer.{heldBytes, isWaiting, heldWhole, barred, Outcome, byCut, offerOf, Whole}
 use Rattle.gate.specs.Write.{shut, writeBy}
 use Rattle.gate.specs.Laws.{is-more, lies, Fit, fit-is, is-fit, Ready, ready, held-few, whole-here, header-here}
 use Rattle.demands.specs.Numbers.{header-numbers, wire-numbers, session-numbers, barred-numbers}
@@ -51,21 +51,21 @@ use Rattle.demands.specs.Demand3.{offer-open}
 -- ---- 2: "own hello passed, other's not"
 
 abbrev pub ownPassed : Side → Session → Bool
-ownPassed Guest s = passed (s .guest)
-ownPassed Host s = passed (s .host)
+ownPassed Guest s = passed (s .head .guest)
+ownPassed Host s = passed (s .head .host)
 
 abbrev pub otherPassed : Side → Session → Bool
-otherPassed Guest s = passed (s .host)
-otherPassed Host s = passed (s .guest)
+otherPassed Guest s = passed (s .head .host)
+otherPassed Host s = passed (s .head .guest)
 
 -- where the sender's own hello has passed, both have exactly where the other's has
 waiting-is : (from : Side) (s : Session) → isWaiting (linkOf from s) ≡ (ownPassed from s && not (otherPassed from s))
-waiting-is Guest s = go (passed (s .guest)) (passed (s .host))
+waiting-is Guest s = go (passed (s .head .guest)) (passed (s .head .host))
   where
     go : (a b : Bool) → (a && not (a && b)) ≡ (a && not b)
     go true b = refl
     go false b = refl
-waiting-is Host s = go (passed (s .guest)) (passed (s .host))
+waiting-is Host s = go (passed (s .head .guest)) (passed (s .head .host))
   where
     go : (a b : Bool) → (b && not (a && b)) ≡ (b && not a)
     go true true = refl
@@ -84,7 +84,7 @@ pub record Goes (from : Side) (s : Session) (hold : List ℕ) : Type 0 where
   pub room : 32784 ≤ length hold
   pub fit : Fit s
   pub begun : Unfinished from s hold
-  pub running : s .stopped ≡ false
+  pub running : s .head .stopped ≡ false
   pub hello-answered : ownPassed from s ≡ true → otherPassed from s ≡ true
 
 -- 10, 11 and 12
@@ -98,9 +98,9 @@ pub record Bars (from : Side) (s : Session) (hold piece : List ℕ) (n : ℕ) : 
   -- "session not one the gate can leave"
   pub unfit : 32784 ≤ length hold → (Fit s × Unfinished from s hold → ⊥) → n ≡ 43
   -- "session stopped"
-  pub stopped : 32784 ≤ length hold → Fit s → Unfinished from s hold → s .stopped ≡ true → n ≡ 3
+  pub stopped : 32784 ≤ length hold → Fit s → Unfinished from s hold → s .head .stopped ≡ true → n ≡ 3
   -- "own hello passed, other's not"
-  pub waiting : 32784 ≤ length hold → Fit s → Unfinished from s hold → s .stopped ≡ false → ownPassed from s ≡ true → otherPassed from s ≡ false → n ≡ 2
+  pub waiting : 32784 ≤ length hold → Fit s → Unfinished from s hold → s .head .stopped ≡ false → ownPassed from s ≡ true → otherPassed from s ≡ false → n ≡ 2
   -- "piece used up, packet not whole"
   pub not-whole : Goes from s hold → cutAt (linkOf from s) (heldBytes from s hold ++ piece) ≡ more → n ≡ 1
   -- "But 10, 11, 12 (that order) fall when the header is whole"
@@ -159,9 +159,9 @@ bars from s hold piece =
 -- accepts all else."
 pub record Shuts (from : Side) (s : Session) (p : Content) (room n : ℕ) : Type 0 where
   pub unfit : (Fit s → ⊥) → n ≡ 43
-  pub stopped : Fit s → s .stopped ≡ true → n ≡ 3
-  pub waiting : Fit s → s .stopped ≡ false → (p .kind ≡ 0 → ⊥) → ownPassed from s ≡ true → otherPassed from s ≡ false → n ≡ 2
-  pub going : Fit s → s .stopped ≡ false → ((p .kind ≡ 0 → ⊥) → ownPassed from s ≡ true → otherPassed from s ≡ true)
+  pub stopped : Fit s → s .head .stopped ≡ true → n ≡ 3
+  pub waiting : Fit s → s .head .stopped ≡ false → (p .kind ≡ 0 → ⊥) → ownPassed from s ≡ true → otherPassed from s ≡ false → n ≡ 2
+  pub going : Fit s → s .head .stopped ≡ false → ((p .kind ≡ 0 → ⊥) → ownPassed from s ≡ true → otherPassed from s ≡ true)
       → n
       ≡ orNext (headerNumber (linkOf from s) (p .kind) (bodyLength (linkOf from s) p))
       (orNext (wireNumber (linkOf from s) p) (cond (ltb room (length (encode (linkOf from s) p))) 40 0))
@@ -369,7 +369,7 @@ header-stops l b n kind e =
     either false b e = absurd (false≢true e)
 
 -- a whole packet
-module _ (d : Side) (s : Session) (b : List ℕ) (n : ℕ) (e : cutAt (linkOf d s) b ≡ whole n) (r : s .stopped ≡ false) where
+module _ (d : Side) (s : Session) (b : List ℕ) (n : ℕ) (e : cutAt (linkOf d s) b ≡ whole n) (r : s .head .stopped ≡ false) where
   abbrev l : Link
   l = linkOf d s
 
@@ -391,13 +391,13 @@ module _ (d : Side) (s : Session) (b : List ℕ) (n : ℕ) (e : cutAt (linkOf d 
       let h : ofHeader (wireNumber l p) ≡ false = wire-numbers (λ m. ofHeader m ≡ false) (refl, (refl, (refl, (refl, (refl, (refl, (refl, tt))))))) l p in
       or-none (ofHeader (wireNumber l p)) (eqb (kindOf (take n b)) 0 && among (13 ∷ 23 ∷ 24 ∷ []) (wireNumber l p)) h (rw k refl)
 
-  refused-stops : (wireNumber l p ≡ 0 → ⊥) → refusedAs (heldAs d 0 s) (kindOf (take n b)) .stopped ≡ stopping (kindOf (take n b)) (wireNumber l p)
+  refused-stops : (wireNumber l p ≡ 0 → ⊥) → refusedAs (heldAs d 0 s) (kindOf (take n b)) .head .stopped ≡ stopping (kindOf (take n b)) (wireNumber l p)
   refused-stops z =
       cases (eqb (kindOf (take n b)) 0)
       (λ t. let k : kindOf (take n b) ≡ 0 = eqb-true _ _ t in rw k (sym (hello-stops k z)))
       (λ t. let q = other-goes-on t in rw (q, t) r)
 
-  verdict-stops : verdictOf (heldAs d 0 s) d (take n b) .session .stopped ≡ stopping (kindOf b) (verdictOf (heldAs d 0 s) d (take n b) .number)
+  verdict-stops : verdictOf (heldAs d 0 s) d (take n b) .session .head .stopped ≡ stopping (kindOf b) (verdictOf (heldAs d 0 s) d (take n b) .number)
   unfolding verdictOf
   verdict-stops =
       cases (eqb (readNumber l (take n b)) 0)
@@ -411,15 +411,15 @@ module _ (d : Side) (s : Session) (b : List ℕ) (n : ℕ) (e : cutAt (linkOf d 
 
 -- barred and 1 stop nothing, a refused header always stops, and a whole packet as its verdict does
 pub stops : (from : Side) (s : Session) (hold piece : List ℕ)
-    → offerOf from s hold piece .session .stopped ≡ (s .stopped || stopping (kindOf (heldBytes from s hold ++ piece)) (offerOf from s hold piece .number))
+    → offerOf from s hold piece .session .head .stopped ≡ (s .head .stopped || stopping (kindOf (heldBytes from s hold ++ piece)) (offerOf from s hold piece .number))
 unfolding offerOf
 stops from s hold piece =
     cases (eqb (barred from s hold) 0)
     (λ t. rw t (goes (ready from s hold (eqb-true _ _ t)) (cutAt (linkOf from s) (heldBytes from s hold ++ piece)) refl))
-    (λ t. rw t (same (s .stopped) (kindOf (heldBytes from s hold ++ piece)) (barred from s hold) (barred-still (kindOf (heldBytes from s hold ++ piece)) from s hold)))
+    (λ t. rw t (same (s .head .stopped) (kindOf (heldBytes from s hold ++ piece)) (barred from s hold) (barred-still (kindOf (heldBytes from s hold ++ piece)) from s hold)))
   where
     goes : Ready from s hold → (c : Cut) → cutAt (linkOf from s) (heldBytes from s hold ++ piece) ≡ c
-        → byCut from s hold piece c .session .stopped ≡ (s .stopped || stopping (kindOf (heldBytes from s hold ++ piece)) (byCut from s hold piece c .number))
-    goes r more e = same (s .stopped) (kindOf (heldBytes from s hold ++ piece)) 1 (and-false (eqb (kindOf (heldBytes from s hold ++ piece)) 0))
-    goes r (bad n) e = going-on (s .stopped) _ _ (r .running) (header-stops (linkOf from s) (heldBytes from s hold ++ piece) n (kindOf (heldBytes from s hold ++ piece)) e)
-    goes r (whole n) e = going-on (s .stopped) _ _ (r .running) (verdict-stops from s (heldBytes from s hold ++ piece) n e (r .running))
+        → byCut from s hold piece c .session .head .stopped ≡ (s .head .stopped || stopping (kindOf (heldBytes from s hold ++ piece)) (byCut from s hold piece c .number))
+    goes r more e = same (s .head .stopped) (kindOf (heldBytes from s hold ++ piece)) 1 (and-false (eqb (kindOf (heldBytes from s hold ++ piece)) 0))
+    goes r (bad n) e = going-on (s .head .stopped) _ _ (r .running) (header-stops (linkOf from s) (heldBytes from s hold ++ piece) n (kindOf (heldBytes from s hold ++ piece)) e)
+    goes r (whole n) e = going-on (s .head .stopped) _ _ (r .running) (verdict-stops from s (heldBytes from s hold ++ piece) n e (r .running))

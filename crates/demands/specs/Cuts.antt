@@ -20,23 +20,26 @@ use Rattle.header.specs.declared.Side.the-variants.{Guest, Host}
 use Rattle.header.specs.declared.Link.{Link}
 use Rattle.header.specs.Header.{kindOf, lengthOf}
 use Rattle.kinds.specs.Codec.{decode, readNumber}
+use Rattle.device.specs.declared.Head.{Head}
+use Rattle.device.specs.declared.Held.{Held}
 use Rattle.decoder.specs.Reading.{PacketTold, readOf}
-use Rattle.events.specs.declared.Event.{Event}
-use Rattle.events.specs.Event.{eventOf}
-use Rattle.checks.specs.Checks.{matchOf, numberFor}
-use Rattle.session.specs.declared.Held.{Held}
+use Rattle.events.specs.Meaning.{Class, Hello, Connect, Interfaces, Endpoints, Disconnect, Reset, Ack, Cancel, Filter, StartRequest, PlainRequest, StreamStatus, PlainReply, StreamData}
+use Rattle.events.specs.Event.{Event, eventOf}
+use Rattle.checks.specs.declared.Change.{Change}
+use Rattle.checks.specs.declared.Change.the-variants as changes
+use Rattle.checks.specs.Checks.{outOfOrder, matchOf, numberFor}
+use Rattle.checks.specs.Change.{changeFor}
 use Rattle.session.specs.declared.Session.{Session}
-use Rattle.session.specs.declared.Judged.{Judged}
-use Rattle.session.specs.Session.{linkOf}
-use Rattle.session.specs.Step.{nextFor, judged}
+use Rattle.session.specs.Session.{linkOf, heldTo}
+use Rattle.session.specs.Step.{headAfter, applied, nextFor, Judged, judged}
 use Rattle.claims.specs.Allowed.{among}
 use Rattle.claims.specs.Kept.{kept-plain}
-use Rattle.roundtrip.specs.Cut.{Cut, more, bad, whole, cutOf}
-use Rattle.roundtrip.specs.Told.{IsWhole, whole-is, IsBad, bad-is}
-use Rattle.wire.specs.Wire.{usbredir}
+use Rattle.frame.specs.Cut.{Cut, more, bad, whole, cutOf}
+use Rattle.wire.specs.Told.{IsWhole, whole-is, IsBad, bad-is}
+use Rattle.wire.specs.Usbredir.{usbredir}
 use Rattle.frame.specs.Frame.{headSize, headNumber, cutAt, completed}
-use Rattle.verdict.specs.Verdict.{VerdictTold, stoppedNow, refusedAs, verdictOf}
-use Rattle.gate.specs.Offer.{heldOf, heldAs, heldBytes, barred, Outcome, unmoved, kept, headerRefused, packetTaken, byCut, offerOf, Whole}
+use Rattle.gate.specs.Verdict.{heldOf, heldAs, VerdictTold, stoppedNow, refusedAs, verdictOf}
+use Rattle.gate.specs.Offer.{heldBytes, barred, Outcome, unmoved, kept, headerRefused, packetTaken, byCut, offerOf, Whole}
 use Rattle.gate.specs.Laws.{front-is, more-few, whole-here, header-here, Ready, ready}
 use Rattle.demands.specs.Numbers.{header-numbers, barred-numbers}
 use Rattle.demands.specs.Demand1.{demand-1}
@@ -135,13 +138,45 @@ bare-held : (d : Side) (n : ℕ) (s : Session) → bare (heldAs d n s) ≡ bare 
 bare-held Guest n s = refl
 bare-held Host n s = refl
 
--- the judge does not look at what is held, and leaves it
-judged-as : (d : Side) (n : ℕ) (s : Session) (e : Event) → judged (heldAs d n s) e ≡ record { session = heldAs d n (judged s e .session); number = judged s e .number }
-unfolding judged nextFor
-judged-as d n s e =
-    cases (eqb (numberFor (s .device) (s .requests) e (matchOf (s .requests) e)) 0)
-    (λ t. rw t refl)
-    (λ t. rw t refl)
+-- the judge does not look at what is held, and leaves it: check 26 for each class, and the head after each change, by computation
+module _ (d : Side) (n : ℕ) (s : Session) where
+  order-as : (c : Class) → outOfOrder (heldAs d n s .head) c ≡ outOfOrder (s .head) c
+  order-as Hello = refl
+  order-as Connect = refl
+  order-as Interfaces = refl
+  order-as Endpoints = refl
+  order-as Disconnect = refl
+  order-as Reset = refl
+  order-as Ack = refl
+  order-as Cancel = refl
+  order-as Filter = refl
+  order-as StartRequest = refl
+  order-as PlainRequest = refl
+  order-as StreamStatus = refl
+  order-as PlainReply = refl
+  order-as StreamData = refl
+
+  head-as : (from : Side) (c : Change) → headAfter (heldAs d n s .head) from c ≡ heldTo d n (headAfter (s .head) from c .stopped) (headAfter (s .head) from c)
+  head-as from changes.Nothing = refl
+  head-as from (changes.Hello word) = refl
+  head-as from changes.Connect = refl
+  head-as from changes.Interfaces = refl
+  head-as from changes.Endpoints = refl
+  head-as from changes.Disconnect = refl
+  head-as from changes.Reset = refl
+  head-as from changes.Acknowledge = refl
+  head-as from (changes.Take i q) = refl
+  head-as from (changes.Start i q typed) = refl
+  head-as from (changes.Answer i typed opens scope) = refl
+
+  judged-as : (e : Event) → judged (heldAs d n s) e ≡ record { session = heldAs d n (judged s e .session); number = judged s e .number }
+  unfolding judged nextFor applied numberFor
+  judged-as e =
+      let next : Session = nextFor s e (matchOf (s .requests) e) in
+      rw (order-as (e .class))
+      (cases (eqb (numberFor (s .head) (s .rows) (s .requests) e (matchOf (s .requests) e)) 0)
+      (λ t. rw t (ap (λ (h : Head). record { session = record { head = h; rows = next .rows; requests = next .requests }; number = 0 }) (head-as (e .sender) (changeFor (s .requests) e (matchOf (s .requests) e)))))
+      (λ t. rw t refl))
 
 refused-as : (d : Side) (n : ℕ) (s : Session) (kind : ℕ) → refusedAs (heldAs d n s) kind ≡ heldAs d n (refusedAs s kind)
 refused-as d n s kind = go (eqb kind 0)
@@ -244,25 +279,25 @@ kept-ends-none x d piece h = record { ends-none = refl; same = bare-held d (held
   where
     behind-held : (d : Side) → heldOf d (x .session) + length piece ≤ length (x .hold d) → (e : Side)
         → heldAfter x d (kept d (x .session) (x .hold d) piece) e ≡ heldBy x e ++ of-side d (take (length piece) piece) (λ i. []) e
-    behind-held Guest h Guest = take-sets (x .hold Guest) piece (x .session .held .guest) h ∙ ap (λ (p : List ℕ). heldBy x Guest ++ p) (sym (take-length piece))
+    behind-held Guest h Guest = take-sets (x .hold Guest) piece (x .session .head .held .guest) h ∙ ap (λ (p : List ℕ). heldBy x Guest ++ p) (sym (take-length piece))
     behind-held Guest h Host = sym (append-nil (heldBy x Host))
     behind-held Host h Guest = sym (append-nil (heldBy x Guest))
-    behind-held Host h Host = take-sets (x .hold Host) piece (x .session .held .host) h ∙ ap (λ (p : List ℕ). heldBy x Host ++ p) (sym (take-length piece))
+    behind-held Host h Host = take-sets (x .hold Host) piece (x .session .head .held .host) h ∙ ap (λ (p : List ℕ). heldBy x Host ++ p) (sym (take-length piece))
 
 -- what the verdict leaves held
-verdict-held : (s : Session) (from : Side) (b : List ℕ) → verdictOf s from b .session .held ≡ s .held
+verdict-held : (s : Session) (from : Side) (b : List ℕ) → verdictOf s from b .session .head .held ≡ s .head .held
 unfolding verdictOf
 verdict-held s from b =
     cases (eqb (readNumber (linkOf from s) b) 0)
     (λ t. rw t (kept-plain s (eventOf from (decode (linkOf from s) b)) .held))
     (λ t. rw t (refused-held (eqb (kindOf b) 0)))
   where
-    refused-held : (c : Bool) → cond c (stoppedNow s) s .held ≡ s .held
+    refused-held : (c : Bool) → cond c (stoppedNow s) s .head .held ≡ s .head .held
     refused-held true = refl
     refused-held false = refl
 
 -- with nothing held in the direction, and all as it was in the other
-held-zero : (x : Both) (d : Side) (s : Session) (hold : List ℕ) → s .held ≡ heldAs d 0 (x .session) .held → (e : Side) → heldBytes e s (of-side d hold (x .hold) e) ≡ of-side d [] (heldBy x) e
+held-zero : (x : Both) (d : Side) (s : Session) (hold : List ℕ) → s .head .held ≡ heldAs d 0 (x .session) .head .held → (e : Side) → heldBytes e s (of-side d hold (x .hold) e) ≡ of-side d [] (heldBy x) e
 held-zero x Guest s hold q Guest = λ i. take (q i .guest) hold
 held-zero x Guest s hold q Host = λ i. take (q i .host) (x .hold Host)
 held-zero x Host s hold q Guest = λ i. take (q i .guest) (x .hold Guest)
@@ -333,7 +368,7 @@ few-as Guest n s h f Host = f Host
 few-as Host n s h f Guest = f Guest
 few-as Host n s h f Host = h
 
-few-same : (s t : Session) → t .held ≡ s .held → ((e : Side) → heldOf e s ≤ 32783) → (e : Side) → heldOf e t ≤ 32783
+few-same : (s t : Session) → t .head .held ≡ s .head .held → ((e : Side) → heldOf e s ≤ 32783) → (e : Side) → heldOf e t ≤ 32783
 few-same s t q f Guest = subst (λ (h : Held). h .guest ≤ 32783) (sym q) (f Guest)
 few-same s t q f Host = subst (λ (h : Held). h .host ≤ 32783) (sym q) (f Host)
 
@@ -379,7 +414,7 @@ held-none d s hold piece =
     (λ t. rw t (goes (cutAt (linkOf d s) (heldBytes d s hold ++ piece))))
     (λ t. rw t (λ h. absurd (true≢false (sym h ∙ barred-ends-none d s hold (λ z. true≢false (sym (ap (λ (m : ℕ). eqb m 0) z) ∙ t))))))
   where
-    none : (d : Side) (t : Session) → t .held ≡ heldAs d 0 s .held → heldOf d t ≡ 0
+    none : (d : Side) (t : Session) → t .head .held ≡ heldAs d 0 s .head .held → heldOf d t ≡ 0
     none Guest t q = λ i. q i .guest
     none Host t q = λ i. q i .host
 

@@ -28,21 +28,21 @@ use Rattle.packet.specs.declared.Part.{Part}
 use Rattle.packet.specs.declared.Packet.{Packet}
 use Rattle.packet.specs.declared.Packet.the-variants.{Hello, InterfaceTable, EndpointTable, Filter, Control, Bulk, Iso, Interrupt, BufferedBulk}
 use Rattle.packet.specs.Packet.{shownOf, said, contentOf, optional16Of}
-use Rattle.rows.specs.Rows.{element, interfaceRow, endpointRow, optional32Of}
+use Rattle.packet.specs.Rows.{element, interfaceRow, endpointRow, optional32Of}
 use Rattle.decoder.specs.Reading.{PacketTold, readOf}
 use Rattle.events.specs.Event.{eventOf}
 use Rattle.session.specs.declared.Session.{Session}
 use Rattle.session.specs.Session.{linkOf}
 use Rattle.session.specs.Step.{judged}
-use Rattle.roundtrip.specs.Cut.{Cut, more, bad, whole}
-use Rattle.roundtrip.specs.Told.{IsWhole, whole-is}
-use Rattle.wire.specs.Wire.{usbredir}
+use Rattle.frame.specs.Cut.{Cut, more, bad, whole}
+use Rattle.wire.specs.Told.{IsWhole, whole-is}
+use Rattle.wire.specs.Usbredir.{usbredir}
 use Rattle.frame.specs.Frame.{headSize, cutAt, bytesAt}
-use Rattle.verdict.specs.Verdict.{verdictOf, handedAs}
-use Rattle.verdict.specs.declared.Handed.{Handed}
-use Rattle.verdict.specs.declared.Handed.the-variants.{Nothing, Passed}
+use Rattle.gate.specs.declared.Handed.{Handed}
+use Rattle.gate.specs.declared.Handed.the-variants.{Nothing, Passed}
 use Rattle.gate.specs.declared.Offered.{Offered}
-use Rattle.gate.specs.Offer.{heldAs, heldBytes, barred, Outcome, byCut, offerOf, outcome, bodyIn, dataIn}
+use Rattle.gate.specs.Verdict.{heldAs, verdictOf, handedAs}
+use Rattle.gate.specs.Offer.{heldBytes, barred, Outcome, byCut, offerOf, outcome, bodyIn, dataIn}
 use Rattle.demands.specs.Kept.{whole-number, SameHeader, header-front}
 use Rattle.demands.specs.Cuts.{ends}
 use Rattle.demands.specs.Calls.{leaves}

@@ -24,12 +24,12 @@ use Rattle.session.specs.declared.Session.{Session}
 use Rattle.session.specs.Session.{linkOf, unfit}
 use Rattle.claims.specs.Allowed.{among}
 use Rattle.claims.specs.Steps.{refused}
-use Rattle.roundtrip.specs.Cut.{Cut, more, bad, whole}
-use Rattle.roundtrip.specs.Told.{IsBad, bad-is}
-use Rattle.wire.specs.Wire.{usbredir}
+use Rattle.frame.specs.Cut.{Cut, more, bad, whole}
+use Rattle.wire.specs.Told.{IsBad, bad-is}
+use Rattle.wire.specs.Usbredir.{usbredir}
 use Rattle.frame.specs.Frame.{headSize, cutAt}
-use Rattle.verdict.specs.Verdict.{stoppedNow, refusedAs, verdictOf}
-use Rattle.gate.specs.Offer.{heldOf, heldAs, heldBytes, isWaiting, barred, Outcome, byCut, offerOf, Whole}
+use Rattle.gate.specs.Verdict.{heldOf, heldAs, stoppedNow, refusedAs, verdictOf}
+use Rattle.gate.specs.Offer.{heldBytes, isWaiting, barred, Outcome, byCut, offerOf, Whole}
 use Rattle.gate.specs.Write.{shut, writeBy, output, outputSize}
 use Rattle.gate.specs.Laws.{completed-length, whole-here, header-here, Ready, ready, held-few}
 use Rattle.demands.specs.Numbers.{header-numbers, barred-numbers, write-numbers}
@@ -43,11 +43,14 @@ readNumbers = 0 ∷ 1 ∷ 2 ∷ 3 ∷ 10 ∷ 11 ∷ 12 ∷ 13 ∷ 20 ∷ 21 ∷ 
 abbrev pub writeNumbers : List ℕ
 writeNumbers = 0 ∷ 2 ∷ 3 ∷ 10 ∷ 11 ∷ 12 ∷ 13 ∷ 20 ∷ 21 ∷ 22 ∷ 23 ∷ 24 ∷ 40 ∷ 43 ∷ []
 
--- what a refusal leaves: hellos, the device with its endpoints and streams, and the requests
+-- what a refusal leaves: hellos, the device, the rows of its endpoints with their streams, and the requests
 pub record Unchanged (s t : Session) : Type 0 where
-  pub guest : t .guest ≡ s .guest
-  pub host : t .host ≡ s .host
-  pub device : t .device ≡ s .device
+  pub guest : t .head .guest ≡ s .head .guest
+  pub host : t .head .host ≡ s .head .host
+  pub present : t .head .present ≡ s .head .present
+  pub introduction : t .head .introduction ≡ s .head .introduction
+  pub owed : t .head .owed ≡ s .head .owed
+  pub rows : t .rows ≡ s .rows
   pub requests : t .requests ≡ s .requests
 
 -- of a reader call
@@ -83,16 +86,16 @@ barred-number : (from : Side) (s : Session) (hold : List ℕ) → among readNumb
 barred-number = barred-numbers (λ m. among readNumbers m ≡ true) (refl, (refl, (refl, (refl, (refl, tt)))))
 
 same : (s : Session) → Unchanged s s
-same s = record { guest = refl; host = refl; device = refl; requests = refl }
+same s = record { guest = refl; host = refl; present = refl; introduction = refl; owed = refl; rows = refl; requests = refl }
 
 held-same : (d : Side) (n : ℕ) (s : Session) → Unchanged s (heldAs d n s)
-held-same d n s = record { guest = refl; host = refl; device = refl; requests = refl }
+held-same d n s = record { guest = refl; host = refl; present = refl; introduction = refl; owed = refl; rows = refl; requests = refl }
 
 refused-same : (d : Side) (s : Session) (kind : ℕ) → Unchanged s (refusedAs (heldAs d 0 s) kind)
 refused-same d s kind = go (eqb kind 0)
   where
     go : (b : Bool) → Unchanged s (cond b (stoppedNow (heldAs d 0 s)) (heldAs d 0 s))
-    go true = record { guest = refl; host = refl; device = refl; requests = refl }
+    go true = record { guest = refl; host = refl; present = refl; introduction = refl; owed = refl; rows = refl; requests = refl }
     go false = held-same d 0 s
 
 -- of a whole packet's verdict
@@ -107,7 +110,7 @@ module _ (d : Side) (s : Session) (b : List ℕ) (n : ℕ) (e : cutAt (linkOf d 
       (λ t. rw t (λ z. subst (Unchanged s) (sym (refused (heldAs d 0 s) (eventOf d (decode (linkOf d s) (take n b))) z)) (held-same d 0 s)))
       (λ t. rw t (λ z. refused-same d s (kindOf (take n b))))
 
--- by the ways of a call: each has its numbers, takes what is there, and moves hellos, device and requests only at 0
+-- by the ways of a call: each has its numbers, takes what is there, and moves hellos, device, rows and requests only at 0
 read-answered : (from : Side) (s : Session) (hold piece : List ℕ) → Answered s hold piece (offerOf from s hold piece)
 unfolding offerOf
 read-answered from s hold piece =
@@ -126,7 +129,7 @@ read-answered from s hold piece =
           number = subst (λ (m : ℕ). among readNumbers m ≡ true) (i .number) (header-numbers (λ m. among readNumbers m ≡ true) (refl, (refl, (refl, (refl, tt)))) (linkOf from s) (kindOf all) (lengthOf all));
           taken = omega (arith, w .there);
           buffer = completed-length hold piece (heldOf from s) (headSize (linkOf from s) all);
-          refusal = λ z. record { guest = refl; host = refl; device = refl; requests = refl };
+          refusal = λ z. record { guest = refl; host = refl; present = refl; introduction = refl; owed = refl; rows = refl; requests = refl };
         }
     goes r (whole n) e =
         let w : Whole hold piece (heldOf from s) n = whole-here (linkOf from s) hold piece (heldOf from s) (r .room) (held-few from s (r .fit)) (r .begun) n e in
@@ -141,7 +144,7 @@ read-answered from s hold piece =
 
 shut-number : (from : Side) (s : Session) (hello : Bool) → among writeNumbers (shut from s hello) ≡ true
 unfolding shut
-shut-number from s hello = go (unfit s) (s .stopped) (isWaiting (linkOf from s) && not hello)
+shut-number from s hello = go (unfit s) (s .head .stopped) (isWaiting (linkOf from s) && not hello)
   where
     go : (a b c : Bool) → among writeNumbers (cond a 43 (cond b 3 (cond c 2 0))) ≡ true
     go true b c = refl

@@ -29,12 +29,12 @@ use Rattle.session.specs.Step.{judged}
 use Rattle.claims.specs.Allowed.{isReply, inwardOf, Unsolicited, Allowed}
 use Rattle.claims.specs.Exchange.{Consumes, allowed-exactly, reply-consumes}
 use Rattle.claims.specs.Number.{checksBy, number-by}
-use Rattle.roundtrip.specs.Cut.{Cut, more, bad, whole}
-use Rattle.roundtrip.specs.Told.{bad-is}
-use Rattle.wire.specs.Wire.{usbredir}
+use Rattle.frame.specs.Cut.{Cut, more, bad, whole}
+use Rattle.wire.specs.Told.{bad-is}
+use Rattle.wire.specs.Usbredir.{usbredir}
 use Rattle.frame.specs.Frame.{cutAt}
-use Rattle.verdict.specs.Verdict.{VerdictTold, verdictOf}
-use Rattle.gate.specs.Offer.{heldAs, heldBytes, barred, packetTaken, byCut, offerOf}
+use Rattle.gate.specs.Verdict.{heldAs, VerdictTold, verdictOf}
+use Rattle.gate.specs.Offer.{heldBytes, barred, packetTaken, byCut, offerOf}
 use Rattle.gate.specs.Write.{shut, writeBy}
 use Rattle.gate.specs.Laws.{Ready, ready, fit-is}
 use Rattle.demands.specs.Kept.{whole-number}
@@ -77,7 +77,7 @@ module _ (from : Side) (s : Session) (hold piece : List ℕ) where
     is-verdict : offerOf from s hold piece ≡ packetTaken from s hold piece (verdictOf (heldAs from 0 s) from (take n all)) n
     is-verdict = offer-open from s hold piece r ∙ ap (byCut from s hold piece) e
 
-    ids : idsDiffer (s .requests .places) ≡ true
+    ids : idsDiffer (s .requests) ≡ true
     ids = fit-is s (r .fit) .ids
 
     -- one that came out of the wire checks is judged

@@ -1,5 +1,5 @@
 -- Demand 3, of the reader and the writer that the contracts of `gate::offer` and `gate::write` cite: one theorem about lists.
--- The general theorem (`roundtrip/specs/Demand3.antt`) asks laws of one call; here the reader and the writer are shown to have them.
+-- The general theorem (`wire/specs/Demand3.antt`) asks laws of one call; here the reader and the writer are shown to have them.
 -- Assumes nothing.
 use Prim.Native.Nat.{ℕ, _+_, _-_, _≤_}
 use native.Mathlib.Omega.{arith}
@@ -26,14 +26,14 @@ use Rattle.session.specs.declared.Session.{Session}
 use Rattle.session.specs.Session.{linkOf, unfit}
 use Rattle.session.specs.Step.{judged}
 use Rattle.claims.specs.Kept.{kept-plain}
-use Rattle.roundtrip.specs.Cut.{more, whole}
-use Rattle.roundtrip.specs.Wire.{OneOf}
-use Rattle.roundtrip.specs.Reader.{Answer, Reader, comesOut, Kept, Stopped, Part, Full, Open, ReaderLaws, Writer, WriterLaws, Demand3}
-use Rattle.roundtrip.specs.Demand3.{demand3}
-use Rattle.wire.specs.Wire.{usbredir, laws, unshared-number, unsuited-number}
+use Rattle.frame.specs.Cut.{more, whole}
+use Rattle.wire.specs.Wire.{OneOf}
+use Rattle.wire.specs.Reader.{Answer, Reader, comesOut, Kept, Stopped, Part, Full, Open, ReaderLaws, Writer, WriterLaws, Demand3}
+use Rattle.wire.specs.Demand3.{demand3}
+use Rattle.wire.specs.Usbredir.{usbredir, laws, unshared-number, unsuited-number}
 use Rattle.frame.specs.Frame.{cutAt, completed}
-use Rattle.verdict.specs.Verdict.{VerdictTold, verdictOf}
-use Rattle.gate.specs.Offer.{heldOf, heldAs, heldBytes, heldWhole, isWaiting, barred, Outcome, unmoved, kept, packetTaken, byCut, offerOf}
+use Rattle.gate.specs.Verdict.{heldOf, heldAs, VerdictTold, verdictOf}
+use Rattle.gate.specs.Offer.{heldBytes, heldWhole, isWaiting, barred, Outcome, unmoved, kept, packetTaken, byCut, offerOf}
 use Rattle.encoder.specs.declared.Written.{Written}
 use Rattle.gate.specs.Write.{shut, writeBy, output, outputSize, WritesBy}
 use Rattle.gate.specs.Laws.{completed-length, more-few, Ready, not-barred, fit-is, is-fit, held-few}
@@ -83,7 +83,7 @@ reader from =
       X = State;
       O = List ℕ;
       ctx = λ x. linkOf from (x .session);
-      stopped = λ x. x .session .stopped;
+      stopped = λ x. x .session .head .stopped;
       held = λ x. heldBytes from (x .session) (x .hold);
       Sound = SoundState;
       read = readBy from;
@@ -168,12 +168,12 @@ module _ (from : Side) (x : State) (piece : List ℕ) (h : SoundState x) where
 
 -- ---- the laws of the reader
 
-stopped-bar : (from : Side) (x : State) → SoundState x → x .session .stopped ≡ true → (b : Bool) → heldWhole from (x .session) (x .hold) ≡ b → barred from (x .session) (x .hold) ≡ cond b 43 3
+stopped-bar : (from : Side) (x : State) → SoundState x → x .session .head .stopped ≡ true → (b : Bool) → heldWhole from (x .session) (x .hold) ≡ b → barred from (x .session) (x .hold) ≡ cond b 43 3
 unfolding barred
 stopped-bar from x h z b e = rw (le-ltb (length (x .hold)) 32784 (h .room), is-fit (x .session) (h .session .fit), e, z) refl
 
 -- a stopped session
-stopped-call : (from : Side) (x : State) (piece : List ℕ) → SoundState x → x .session .stopped ≡ true → Stopped usbredir (reader from) x piece
+stopped-call : (from : Side) (x : State) (piece : List ℕ) → SoundState x → x .session .head .stopped ≡ true → Stopped usbredir (reader from) x piece
 unfolding comesOut
 stopped-call from x piece h z = go (heldWhole from (x .session) (x .hold)) refl
   where
@@ -200,7 +200,7 @@ part-call from x piece o e =
       taken = ap (λ (p : Outcome). p .taken) q;
       held = ap (λ (p : Outcome). heldBytes from (p .session) (p .hold)) q ∙ ap (λ (k : ℕ). take k (sets (x .hold) (heldOf from s) piece)) (held-as from s (heldOf from s + length piece)) ∙ f;
       handed = ap (λ (p : Outcome). contents (p .handed)) q;
-      running = ap (λ (p : Outcome). p .session .stopped) q ∙ r .running;
+      running = ap (λ (p : Outcome). p .session .head .stopped) q ∙ r .running;
       kept = after from x piece (o .sound) (ap (λ (p : Outcome). length (p .hold)) q ∙ length-sets (x .hold) (heldOf from s) piece);
     }
 
@@ -241,7 +241,7 @@ full-call from x piece n q o e z d =
       taken = ap (λ (p : Outcome). p .taken) v ∙ ap (λ (m : ℕ). n - m) (sym c);
       held = ap (λ (p : Outcome). heldBytes from (p .session) (p .hold)) v ∙ ap (λ (m : ℕ). take m (completed (x .hold) (heldOf from s) piece n)) (same-held from (heldAs from 0 s) (j .session) (k .held) ∙ held-as from s 0);
       handed = ap (λ (p : Outcome). contents (p .handed)) v ∙ handed-when (eqb (j .number) 0) (linkOf from s) b q z d ∙ ap (λ (m : ℕ). cond (eqb m 0) (q ∷ []) []) (sym (ap (λ (p : Outcome). p .number) v));
-      running = ap (λ (p : Outcome). p .session .stopped) v ∙ k .stopped ∙ r .running;
+      running = ap (λ (p : Outcome). p .session .head .stopped) v ∙ k .stopped ∙ r .running;
       kept = after from x piece (o .sound) (ap (λ (p : Outcome). length (p .hold)) v ∙ completed-length (x .hold) piece (heldOf from s) n);
     }
 
@@ -283,9 +283,9 @@ puts from s p out e =
 -- packet's start"; "one that 43 doesn't refuse"; "The direction starts with nothing held and a buffer that 41 allows". Of the other
 -- direction's buffer nothing is asked, and of its held bytes only that 43 allows their count.
 pub record Starts (from : Side) (x : State) : Type 0 where
-  pub running : x .session .stopped ≡ false
-  pub guest : passed (x .session .guest) ≡ true
-  pub host : passed (x .session .host) ≡ true
+  pub running : x .session .head .stopped ≡ false
+  pub guest : passed (x .session .head .guest) ≡ true
+  pub host : passed (x .session .head .host) ≡ true
   pub fit : unfit (x .session) ≡ false
   pub nothing-held : heldOf from (x .session) ≡ 0
   pub room : 32784 ≤ length (x .hold)

@@ -14,17 +14,16 @@ use Rattle.header.specs.Header.{headerSize, headerNumber}
 use Rattle.kinds.specs.Table.{kinds}
 use Rattle.kinds.specs.Codec.{layout, contentAt, decode, readNumber}
 use Rattle.kinds.specs.Number.{bad, kindNumber, wireNumber}
-use Rattle.scan.specs.Scan.{firstAt, exists, anyAt, eachAt}
-use Rattle.device.specs.Device.{startRows, startDevice}
-use Rattle.requests.specs.Requests.{freshRequests, idsDiffer, lowest}
-use Rattle.requests.specs.Ids.{distinct, liveIds}
+use Rattle.scan.specs.Scan.{firstAt, exists, anyAt, tabulated}
+use Rattle.device.specs.Device.{startRows, startHead}
+use Rattle.requests.specs.Requests.{freshRequests, placeAt, placesOf, lowest, distinct, liveIds, idsDiffer}
 use Rattle.events.specs.Meaning.{meanings}
 use Rattle.events.specs.Event.{meaningOf, eventOf}
 use Rattle.checks.specs.Checks.{matchOf, numberFor}
 use Rattle.session.specs.Session.{freshSession, unfit}
-use Rattle.session.specs.Step.{nextFor, judged}
-use Rattle.roundtrip.specs.Cut.{cutOf}
-use Rattle.verdict.specs.Verdict.{verdictOf}
+use Rattle.session.specs.Step.{applied, nextFor, judged}
+use Rattle.frame.specs.Cut.{cutOf}
+use Rattle.gate.specs.Verdict.{verdictOf}
 use Rattle.gate.specs.Offer.{barred, offerOf}
 use Rattle.demands.specs.Cuts.{Call, final}
 use Rattle.demands.specs.Demand3.{Starts}
@@ -52,12 +51,12 @@ room : (d : Side) → 32784 ≤ length (buffers d)
 room d = omega (arith, length-replicate {A = ℕ} 32784 0)
 
 pub hellos-start : (d : Side) → Starts d (stateOf d (final (begun buffers) (hellos newest newest)))
-unfolding final offerOf barred unfit verdictOf cutOf readNumber decode contentAt headerSize headerNumber idWidth sharedSet wireNumber kindNumber bad layout kinds freshSession judged numberFor matchOf nextFor eventOf meaningOf meanings startRows startDevice freshRequests lowest idsDiffer distinct liveIds firstAt exists anyAt eachAt
+unfolding final offerOf barred unfit verdictOf cutOf readNumber decode contentAt headerSize headerNumber idWidth sharedSet wireNumber kindNumber bad layout kinds freshSession judged numberFor matchOf nextFor applied eventOf meaningOf meanings startHead startRows freshRequests placeAt placesOf lowest idsDiffer distinct liveIds firstAt exists anyAt tabulated
 hellos-start Guest = begun-starts buffers room (hellos newest newest) Guest refl refl refl refl
 hellos-start Host = begun-starts buffers room (hellos newest newest) Host refl refl refl refl
 
 -- "however old either end is"
 pub old-start : (d : Side) → Starts d (stateOf d (final (begun buffers) (hellos oldest newest)))
-unfolding final offerOf barred unfit verdictOf cutOf readNumber decode contentAt headerSize headerNumber idWidth sharedSet wireNumber kindNumber bad layout kinds freshSession judged numberFor matchOf nextFor eventOf meaningOf meanings startRows startDevice freshRequests lowest idsDiffer distinct liveIds firstAt exists anyAt eachAt
+unfolding final offerOf barred unfit verdictOf cutOf readNumber decode contentAt headerSize headerNumber idWidth sharedSet wireNumber kindNumber bad layout kinds freshSession judged numberFor matchOf nextFor applied eventOf meaningOf meanings startHead startRows freshRequests placeAt placesOf lowest idsDiffer distinct liveIds firstAt exists anyAt tabulated
 old-start Guest = begun-starts buffers room (hellos oldest newest) Guest refl refl refl refl
 old-start Host = begun-starts buffers room (hellos oldest newest) Host refl refl refl refl

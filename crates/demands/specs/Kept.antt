@@ -23,18 +23,17 @@ use Rattle.header.specs.Header.{kindOf, lengthOf}
 use Rattle.kinds.specs.Content.{Content}
 use Rattle.kinds.specs.Number.{wireNumber}
 use Rattle.kinds.specs.Codec.{decode, readNumber}
-use Rattle.events.specs.declared.Event.{Event}
-use Rattle.events.specs.Event.{eventOf}
+use Rattle.events.specs.Event.{Event, eventOf}
 use Rattle.session.specs.declared.Session.{Session}
 use Rattle.session.specs.Session.{linkOf}
 use Rattle.session.specs.Step.{judged}
 use Rattle.claims.specs.Kept.{kept-ids, kept-control, event-control, kept-hellos, kept-plain}
-use Rattle.roundtrip.specs.Cut.{Cut, more, bad, whole}
-use Rattle.roundtrip.specs.Told.{IsWhole, whole-is}
-use Rattle.wire.specs.Wire.{usbredir, laws}
+use Rattle.frame.specs.Cut.{Cut, more, bad, whole}
+use Rattle.wire.specs.Told.{IsWhole, whole-is}
+use Rattle.wire.specs.Usbredir.{usbredir, laws}
 use Rattle.frame.specs.Frame.{headSize, headNumber, cutAt}
-use Rattle.verdict.specs.Verdict.{stoppedNow, refusedAs, verdictOf}
-use Rattle.gate.specs.Offer.{heldOf, heldAs, heldBytes, barred, byCut, offerOf}
+use Rattle.gate.specs.Verdict.{heldOf, heldAs, stoppedNow, refusedAs, verdictOf}
+use Rattle.gate.specs.Offer.{heldBytes, barred, byCut, offerOf}
 use Rattle.gate.specs.Laws.{FitCount, Fit, Ready, ready, more-few, held-few}
 use Rattle.demands.specs.Numbers.{Each, wire-numbers, session-numbers}
 
@@ -92,16 +91,16 @@ held-as Host s n = refl
 
 pub record Established (s : Session) : Type 0 where
   -- "both hellos passed"
-  pub guest : passed (s .guest) ≡ true
-  pub host : passed (s .host) ≡ true
+  pub guest : passed (s .head .guest) ≡ true
+  pub host : passed (s .head .host) ≡ true
   -- "one that 43 doesn't refuse"
   pub fit : Fit s
 
 -- what a call for direction d leaves of a session s
 pub record Keeps (d : Side) (s t : Session) : Type 0 where
   pub established : Established t
-  pub guest : t .guest ≡ s .guest
-  pub host : t .host ≡ s .host
+  pub guest : t .head .guest ≡ s .head .guest
+  pub host : t .head .host ≡ s .head .host
   pub held : heldOf (opposite d) t ≡ heldOf (opposite d) s
 
 keeps-all : (d : Side) (s : Session) → Established s → Keeps d s s
@@ -122,7 +121,7 @@ counted Guest s n h few =
           record {
             guest = h .guest;
             host = h .host;
-            fit = record { guest = count-fits (s .guest) (s .host) n (h .host) few; host = h .fit .host; ids = h .fit .ids; control = h .fit .control };
+            fit = record { guest = count-fits (s .head .guest) (s .head .host) n (h .host) few; host = h .fit .host; ids = h .fit .ids; control = h .fit .control };
           };
       guest = refl;
       host = refl;
@@ -134,7 +133,7 @@ counted Host s n h few =
           record {
             guest = h .guest;
             host = h .host;
-            fit = record { guest = h .fit .guest; host = count-fits (s .host) (s .guest) n (h .guest) few; ids = h .fit .ids; control = h .fit .control };
+            fit = record { guest = h .fit .guest; host = count-fits (s .head .host) (s .head .guest) n (h .guest) few; ids = h .fit .ids; control = h .fit .control };
           };
       guest = refl;
       host = refl;
@@ -145,7 +144,7 @@ halted : (d : Side) (s : Session) → Established s → Keeps d s (stoppedNow s)
 halted Guest s h = record { established = record { guest = h .guest; host = h .host; fit = record { guest = h .fit .guest; host = h .fit .host; ids = h .fit .ids; control = h .fit .control } }; guest = refl; host = refl; held = refl }
 halted Host s h = record { established = record { guest = h .guest; host = h .host; fit = record { guest = h .fit .guest; host = h .fit .host; ids = h .fit .ids; control = h .fit .control } }; guest = refl; host = refl; held = refl }
 
-pub same-held : (d : Side) (s t : Session) → t .held ≡ s .held → heldOf d t ≡ heldOf d s
+pub same-held : (d : Side) (s t : Session) → t .head .held ≡ s .head .held → heldOf d t ≡ heldOf d s
 same-held Guest s t e = λ i. e i .guest
 same-held Host s t e = λ i. e i .host
 

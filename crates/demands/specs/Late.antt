@@ -28,13 +28,13 @@ use Rattle.claims.specs.Allowed.{isRequest, isReply, inwardOf, Unsolicited}
 use Rattle.claims.specs.Steps.{NoLive, ended-absent}
 use Rattle.claims.specs.Exchange.{LateReply, late}
 use Rattle.claims.specs.Runs.{absent-step}
-use Rattle.roundtrip.specs.Cut.{Cut, more, bad, whole}
-use Rattle.roundtrip.specs.Told.{IsBad, bad-is}
-use Rattle.roundtrip.specs.Reader.{comesOut}
-use Rattle.wire.specs.Wire.{usbredir}
+use Rattle.frame.specs.Cut.{Cut, more, bad, whole}
+use Rattle.wire.specs.Told.{IsBad, bad-is}
+use Rattle.wire.specs.Reader.{comesOut}
+use Rattle.wire.specs.Usbredir.{usbredir}
 use Rattle.frame.specs.Frame.{cutAt}
-use Rattle.verdict.specs.Verdict.{verdictOf}
-use Rattle.gate.specs.Offer.{heldOf, heldAs, heldBytes, barred, Outcome, packetTaken, byCut, offerOf}
+use Rattle.gate.specs.Verdict.{heldOf, heldAs, verdictOf}
+use Rattle.gate.specs.Offer.{heldBytes, barred, Outcome, packetTaken, byCut, offerOf}
 use Rattle.gate.specs.Laws.{front-is, whole-here, Ready, ready, fit-is, held-few}
 use Rattle.demands.specs.Numbers.{header-numbers, wire-numbers, barred-numbers}
 use Rattle.demands.specs.Kept.{whole-number}
@@ -140,8 +140,8 @@ absent-calls x (c ∷ cs) n a f = absent-calls (next x c) cs n (absent-call x c 
 
 -- it is refused, but for an unsolicited status, and no request is freed by it
 pub record LateCall (x : Both) (c : Call) (p : Content) : Type 0 where
-  pub without-device : x .session .device .present ≡ false → answerTo x c .number ≡ 25
-  pub refused : x .session .device .present ≡ true → (Unsolicited (x .session .requests) p → ⊥) → answerTo x c .number ≡ 33
+  pub without-device : x .session .head .present ≡ false → answerTo x c .number ≡ 25
+  pub refused : x .session .head .present ≡ true → (Unsolicited (x .session .requests) p → ⊥) → answerTo x c .number ≡ 33
   pub kept : next x c .session .requests ≡ x .session .requests
 
 -- "It is the reading of the bytes taken for it": of those held, and of those taken of the piece

@@ -8,7 +8,7 @@ use mathlib.Core.Bool.{true, false}
 use mathlib.Core.List.{List, [], _∷_, _++_}
 use mathlib.Core.Option.{Option, none, some}
 use mathlib.Core.Path.{_≡_, refl}
-use lib.ListN.{length, take, set, replicate}
+use lib.ListN.{take, set, replicate}
 use Rattle.number.specs.Little.{bytesOf}
 use Rattle.endpoint.specs.declared.RowOf.{RowOf}
 use Rattle.endpoint.specs.declared.RowOf.the-variants.{At, Malformed}
@@ -22,21 +22,20 @@ use Rattle.kinds.specs.Table.{kinds}
 use Rattle.kinds.specs.Content.{one, Content, packetOf}
 use Rattle.kinds.specs.Codec.{layout, contentAt, decode, encode, readNumber, packetNumber, writeNumber, written, writtenSize}
 use Rattle.kinds.specs.Number.{bad, kindNumber, wireNumber}
-use Rattle.scan.specs.Scan.{firstAt, exists, anyAt, eachAt}
+use Rattle.scan.specs.Scan.{firstAt, exists, anyAt, tabulated}
 use Rattle.device.specs.declared.Introduction.the-variants.{Two}
-use Rattle.device.specs.Device.{bulk, startRows, startDevice, replaced, streamTo, closed, touched}
-use Rattle.requests.specs.declared.Place.{Place}
-use Rattle.requests.specs.Requests.{freshRequests, taken, idsDiffer, lowest, withPlace, released}
-use Rattle.requests.specs.Ids.{distinct, liveIds}
+use Rattle.device.specs.Device.{bulk, startRows, startHead, replaced, streamTo, closed, touched}
+use Rattle.requests.specs.declared.Requests.{Requests}
+use Rattle.requests.specs.Requests.{freshRequests, placeAt, placesOf, lowest, withRequest, trimmed, without, released, distinct, liveIds, idsDiffer}
 use Rattle.events.specs.Meaning.{meanings}
 use Rattle.events.specs.Event.{meaningOf, eventOf}
 use Rattle.checks.specs.Checks.{matchOf, numberFor}
 use Rattle.session.specs.declared.Session.{Session}
 use Rattle.session.specs.Session.{freshSession, unfit}
-use Rattle.session.specs.Step.{nextFor, judged}
+use Rattle.session.specs.Step.{applied, nextFor, judged}
 use Rattle.decoder.specs.Reading.{PacketTold, readOf}
-use Rattle.roundtrip.specs.Cut.{cutOf}
-use Rattle.verdict.specs.Verdict.{verdictOf}
+use Rattle.frame.specs.Cut.{cutOf}
+use Rattle.gate.specs.Verdict.{verdictOf}
 use Rattle.gate.specs.Offer.{barred, offerOf}
 use Rattle.gate.specs.Write.{shut, output, outputSize}
 use Rattle.demands.specs.Cuts.{Both, Call, answerTo, next}
@@ -44,16 +43,22 @@ use Rattle.demands.specs.Hellos.{helloBytes}
 
 -- ---- what the examples are run on
 
--- a session whose hellos both offered the same word, with a device whose endpoint 2 OUT is bulk, and these places for requests
-abbrev sessionOf : ℕ → List Place → Session
-sessionOf word places =
+-- a session whose hellos both offered the same word, with a device whose endpoint 2 OUT is bulk, and these requests
+abbrev sessionOf : ℕ → Requests → Session
+sessionOf word requests =
     record {
-      guest = Passed word;
-      host = Passed word;
-      stopped = false;
-      held = record { guest = 0; host = 0 };
-      device = record { present = true; introduction = Two; owed = false; rows = record { rows = set (startRows .rows) 2 (record { ty = bulk; interface = 0; streaming = false }) } };
-      requests = record { places = places };
+      head =
+          record {
+            guest = Passed word;
+            host = Passed word;
+            stopped = false;
+            held = record { guest = 0; host = 0 };
+            present = true;
+            introduction = Two;
+            owed = false;
+          };
+      rows = record { types = set (startRows .types) 2 bulk; interfaces = startRows .interfaces; streams = startRows .streams };
+      requests = requests;
     }
 
 -- with two holding buffers of the least size
@@ -61,7 +66,7 @@ abbrev buffered : Session → Both
 buffered s = record { session = s; hold = λ d. replicate 32784 0 }
 
 abbrev connected : ℕ → Both
-connected word = buffered (sessionOf word (freshRequests .places))
+connected word = buffered (sessionOf word freshRequests)
 
 abbrev guest : List ℕ → Call
 guest bytes = record { from = Guest; piece = bytes }
@@ -118,10 +123,10 @@ asks id = guest (bytesOf 4 7 ++ (bytesOf 4 0 ++ bytesOf 4 id))
 abbrev answers : ℕ → Call
 answers id = host (bytesOf 4 8 ++ (bytesOf 4 2 ++ (bytesOf 4 id ++ (0 ∷ 1 ∷ []))))
 
--- 96 get-configs that wait, with ids from 0 up
-abbrev waiting : ℕ → ℕ → List Place
-waiting zero id = []
-waiting (suc n) id = taken (record { id = id; kind = 7; target = 0; length = 0 }) ∷ waiting n (suc id)
+-- so many get-configs that wait, with ids from 0 up
+abbrev waiting : ℕ → Requests
+waiting zero = freshRequests
+waiting (suc n) = withRequest (waiting n) n (record { id = n; kind = 7; target = 0; length = 0 })
 
 -- ---- the examples
 
@@ -154,7 +159,7 @@ marked =
     ∷ record { name = "M9"; gives = numbers (connected 0) (guest (headerSaying 8 ++ (18 ∷ 0 ∷ 0 ∷ 0 ∷ 0 ∷ 0 ∷ 0 ∷ 0 ∷ [])) ∷ []); expected = 24 ∷ [] }
     ∷ record { name = "M10, word 1"; gives = numbers (buffered freshSession) (host (helloWith 1) ∷ []); expected = 13 ∷ [] }
     ∷ record { name = "M10, word 17"; gives = numbers (buffered freshSession) (host (helloWith 17) ∷ []); expected = 0 ∷ [] }
-    ∷ record { name = "M11"; gives = numbers (buffered (sessionOf 0 (waiting 96 0))) (asks 96 ∷ answers 5 ∷ asks 96 ∷ []); expected = 32 ∷ 0 ∷ 0 ∷ [] }
+    ∷ record { name = "M11"; gives = numbers (buffered (sessionOf 0 (waiting 96))) (asks 96 ∷ answers 5 ∷ asks 96 ∷ []); expected = 32 ∷ 0 ∷ 0 ∷ [] }
     ∷ []
 
 -- the claim
@@ -163,5 +168,5 @@ AsExpected [] = Unit {0}
 AsExpected (e ∷ es) = (e .gives ≡ e .expected) × AsExpected es
 
 pub as-marked : AsExpected marked
-unfolding marked numbers handed offerOf barred unfit verdictOf readOf cutOf shut output outputSize written writtenSize writeNumber packetNumber readNumber encode decode contentAt headerSize headerBytes headerNumber idWidth sharedSet wireNumber kindNumber bad layout kinds freshSession judged numberFor matchOf nextFor eventOf meaningOf meanings startRows startDevice replaced streamTo closed touched freshRequests lowest withPlace released idsDiffer distinct liveIds firstAt exists anyAt eachAt
+unfolding marked numbers handed offerOf barred unfit verdictOf readOf cutOf shut output outputSize written writtenSize writeNumber packetNumber readNumber encode decode contentAt headerSize headerBytes headerNumber idWidth sharedSet wireNumber kindNumber bad layout kinds freshSession judged numberFor matchOf nextFor applied eventOf meaningOf meanings startHead startRows replaced streamTo closed touched freshRequests placeAt placesOf lowest withRequest trimmed without released idsDiffer distinct liveIds firstAt exists anyAt tabulated
 as-marked = (refl, (refl, (refl, (refl, (refl, (refl, (refl, (refl, (refl, (refl, (refl, (refl, (refl, (refl, (refl, (refl, (refl, tt)))))))))))))))))

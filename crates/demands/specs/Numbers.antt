@@ -18,7 +18,7 @@ use Rattle.kinds.specs.Table.{Kind, kinds}
 use Rattle.kinds.specs.Content.{Content, shared, find}
 use Rattle.kinds.specs.Codec.{bodyLength, encode, orNext, packetNumber, writeNumber}
 use Rattle.kinds.specs.Number.{sends, surplus, wideId, sizeOk, bad, isNone, streamsAlone, inOrder, kindNumber, byKind, wireNumber}
-use Rattle.events.specs.declared.Event.{Event}
+use Rattle.events.specs.Event.{Event}
 use Rattle.checks.specs.Checks.{Check, firstOf, checks, matchOf, numberFor, numberOf}
 use Rattle.session.specs.declared.Session.{Session}
 use Rattle.session.specs.Session.{linkOf, unfit}
@@ -81,12 +81,12 @@ module _ (P : ℕ → Type 0) where
   unfolding EachCheck numberOf numberFor
   session-numbers p s e =
       subst P (sym (number-is s e))
-      (first-check (checks (s .device) (s .requests) e (matchOf (s .requests) e)) (p .0) (p .1 .0, (p .1 .1 .1 .0, (p .1 .1 .0, (p .1 .1 .1 .1 .0, (p .1 .1 .1 .1 .1 .0, (p .1 .1 .1 .1 .1 .1 .0, (p .1 .1 .1 .1 .1 .1 .1 .0, (p .1 .1 .1 .1 .1 .1 .1 .1 .0, (p .1 .1 .1 .1 .1 .1 .1 .1 .1 .0, (p .1 .1 .1 .1 .1 .1 .1 .1 .1 .1 .0, tt)))))))))))
+      (first-check (checks (s .head) (s .rows) (s .requests) e (matchOf (s .requests) e)) (p .0) (p .1 .0, (p .1 .1 .1 .0, (p .1 .1 .0, (p .1 .1 .1 .1 .0, (p .1 .1 .1 .1 .1 .0, (p .1 .1 .1 .1 .1 .1 .0, (p .1 .1 .1 .1 .1 .1 .1 .0, (p .1 .1 .1 .1 .1 .1 .1 .1 .0, (p .1 .1 .1 .1 .1 .1 .1 .1 .1 .0, (p .1 .1 .1 .1 .1 .1 .1 .1 .1 .1 .0, tt)))))))))))
 
   -- 41, 43, 3, 2, or 0 where a call can go on
   pub barred-numbers : Each P (0 ∷ 2 ∷ 3 ∷ 41 ∷ 43 ∷ []) → (from : Side) (s : Session) (hold : List ℕ) → P (barred from s hold)
   unfolding barred
-  barred-numbers p from s hold = go (ltb (length hold) 32784) (unfit s || heldWhole from s hold) (s .stopped) (isWaiting (linkOf from s))
+  barred-numbers p from s hold = go (ltb (length hold) 32784) (unfit s || heldWhole from s hold) (s .head .stopped) (isWaiting (linkOf from s))
     where
       go : (a b c d : Bool) → P (cond a 41 (cond b 43 (cond c 3 (cond d 2 0))))
       go true b c d = p .1 .1 .1 .0

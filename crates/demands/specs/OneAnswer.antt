@@ -12,10 +12,10 @@ use Rattle.header.specs.declared.Link.{Link}
 use Rattle.header.specs.Link.{sharedSet}
 use Rattle.packet.specs.Same.{same-packet}
 use Rattle.decoder.specs.Reading.{PacketTold}
-use Rattle.verdict.specs.declared.Handed.{Handed}
-use Rattle.verdict.specs.declared.Handed.the-variants.{Nothing, Passed}
-use Rattle.verdict.specs.Verdict.{handedAs}
+use Rattle.gate.specs.declared.Handed.{Handed}
+use Rattle.gate.specs.declared.Handed.the-variants.{Nothing, Passed}
 use Rattle.gate.specs.declared.Offered.{Offered}
+use Rattle.gate.specs.Verdict.{handedAs}
 use Rattle.gate.specs.Offer.{Outcome, outcome}
 
 -- what is handed out, of any two runs of bytes

@@ -1,48 +1,61 @@
--- What the functions of the rows answer in each case, in the values that the code has: a stream that is set, left, or without a row
--- (`stream-set`, `stream-left`, `stream-none`), and whether a scope touches an endpoint's row (`touched-nowhere` and those after it).
--- The definitions go by `rowOf e`, the code by an answer o with `o ≡ rowOf e`: `at-row` and `in-scope` put the case of o into the definition,
--- which then computes. That a row which is found is below 32 is `endpoint-back`.
+-- What the functions of the rows answer, in the values that the code has: the row of an endpoint (`row-in` and those after it), whether a scope
+-- touches a row (`touches-apart`), the test of a mask at a row (`mistyped-at`), a stream that is stored or left (`stream-stored`, `stream-left`),
+-- and a loop that fills the streams (`filled-none`, `filled-more`, `filled-all`).
+-- The definitions go by `rowOf e`, the code by an answer o with `o ≡ rowOf e` that is a z: the case of z then computes. That a row which is found
+-- is below 32 is `endpoint-back`. A loop that has stored at the first i rows has changed the first i elements (`upTo`), and 32 of them are all.
 -- Assumes nothing.
-use Prim.Native.Nat.{ℕ, _<_}
+use Prim.Native.Nat.{ℕ, _+_, _≤_, _<_}
 use mathlib.Core.Path.{_≡_, refl, sym, ap, _∙_}
-use mathlib.Core.Bool.{Bool, true, false, not, _&&_, _||_}
-use lib.ListN.{getD, set}
-use lib.Dec.{eqb}
+use mathlib.Core.Bool.{Bool, true, false, cond, not, _&&_, _||_}
+use mathlib.Core.List.{List}
+use native.Mathlib.Nat.{zero-add}
+use native.Mathlib.Omega.{arith}
+use lib.ListN.{length, getD, set}
+use lib.Dec.{eqb, ltb}
+use borrow.Author.Tests.{lt-ltb, le-ltb}
+use Rattle.number.specs.Bits.{hasBit}
 use Rattle.endpoint.specs.declared.Endpoint.{Endpoint}
 use Rattle.endpoint.specs.declared.Row.{Row}
 use Rattle.endpoint.specs.declared.RowOf.{RowOf}
-use Rattle.endpoint.specs.declared.RowOf.the-variants.{At, Malformed}
+use Rattle.endpoint.specs.declared.RowOf.the-variants.{At}
 use Rattle.endpoint.specs.Endpoint.{rowOf}
 use Rattle.endpoint.specs.Laws.{endpoint-back}
-use Rattle.device.specs.declared.RowState.{RowState}
+use Rattle.scan.specs.Scan.{tabulated, putAt}
+use Rattle.scan.specs.Loop.{upTo, upto-none, upto-all}
+use Rattle.scan.specs.Laws.{each-length, each-at, upto-step, tabulated-is, set-put}
 use Rattle.device.specs.declared.Rows.{Rows}
 use Rattle.device.specs.declared.Scope.{Scope}
-use Rattle.device.specs.declared.Scope.the-variants.{Nowhere, Everywhere, OfInterface}
-use Rattle.device.specs.Device.{closedRow, withStream, streamIn, streamTo, touches, touchedIn, touched}
+use Rattle.device.specs.declared.Scope.the-variants.{OfInterface}
+use Rattle.device.specs.Device.{closedRow, rowsOf, rowIn, stateAt, mistyped, withStreams, streamTo, touches, touchedIn, touched}
+use Rattle.device.specs.Columns.{streamRowIn, streamRow}
+use Rattle.device.specs.Laws.{rows-at, stream-by-row}
+
+-- ---- the row of an endpoint
 
 -- a row that is found is one of the 32
 pub row-low : (e : Endpoint) (o : RowOf) (r : Row) → e .0 < 256 → o ≡ rowOf e → o ≡ At r → r .0 < 32
 row-low e o r b ends found = endpoint-back e r b (sym ends ∙ found) .1
 
--- ---- a stream of the row of an endpoint
+module _ (d : Rows) (e : Endpoint) (o z : RowOf) (ends : o ≡ rowOf e) (found : o ≡ z) where
+  pub row-in : rowIn d z ≡ stateAt d e
+  row-in = ap (rowIn d) (sym found ∙ ends)
 
-module _ (d : Rows) (e : Endpoint) (k : ℕ) (b : Bool) (o : RowOf) (ends : o ≡ rowOf e) where
-  at-row : (z : RowOf) → o ≡ z → streamIn d z k b ≡ streamTo d e k b
-  unfolding streamTo
-  at-row z found = ap (λ (y : RowOf). streamIn d y k b) (sym found ∙ ends)
+  pub stream-row-in : (k : ℕ) → streamRowIn d z k ≡ streamRow d e k
+  unfolding streamRow
+  stream-row-in k = ap (λ (y : RowOf). streamRowIn d y k) (sym found ∙ ends)
 
-  pub stream-set : (r : Row) (w : RowState) → o ≡ At r → eqb (getD (d .rows) (r .0) (closedRow 0) .ty) k ≡ true → w ≡ withStream b (getD (d .rows) (r .0) (closedRow 0)) → record { rows = set (d .rows) (r .0) w } ≡ streamTo d e k b
-  stream-set r w found t v =
-      let here : record { rows = set (d .rows) (r .0) w } ≡ streamIn d (At r) k b = rw (t, v) in
-      here ∙ at-row (At r) found
+  pub touched-in : (s t : Scope) → s ≡ t → touchedIn d t z ≡ touched d s e
+  unfolding touched
+  touched-in s t of = λ j. touchedIn d (sym of j) ((sym found ∙ ends) j)
 
-  pub stream-left : (r : Row) → o ≡ At r → eqb (getD (d .rows) (r .0) (closedRow 0) .ty) k ≡ false → d ≡ streamTo d e k b
-  stream-left r found f =
-      let here : d ≡ streamIn d (At r) k b = rw f in
-      here ∙ at-row (At r) found
+-- of a row that is found, by its column l
+module _ (d : Rows) (e : Endpoint) (o : RowOf) (r : Row) (l : List ℕ) (ends : o ≡ rowOf e) (found : o ≡ At r) where
+  pub stream-row-at : (k : ℕ) (t : Bool) → d .types ≡ l → eqb (getD l (r .0) 0) k ≡ t → cond t (r .0) 32 ≡ streamRow d e k
+  stream-row-at k t p test = rw (← test, ← p) (stream-row-in d e o (At r) ends found k)
 
-  pub stream-none : o ≡ Malformed → d ≡ streamTo d e k b
-  stream-none found = at-row Malformed found
+  pub touched-at : (s : Scope) (n : ℕ) → d .interfaces ≡ l → s ≡ OfInterface n → touches s (r .0) (getD l (r .0) 0) ≡ touched d s e
+  touched-at s n p of =
+      (λ j. touches (of j) (r .0) (getD (sym p j) (r .0) 0)) ∙ touched-in d e o (At r) ends found s (OfInterface n) of
 
 -- ---- a row in a scope
 
@@ -51,25 +64,46 @@ neither true b = refl
 neither false b = refl
 
 -- the two rows of control are set apart one by one
-pub touches-apart : (s : Scope) (i n : ℕ) (r : RowState) → s ≡ OfInterface n → (not (eqb i 0) && not (eqb i 16)) && eqb (r .interface) n ≡ touches s i r
-touches-apart s i n r of = rw (of, neither (eqb i 0) (eqb i 16))
+pub touches-apart : (s : Scope) (i n m : ℕ) → s ≡ OfInterface n → (not (eqb i 0) && not (eqb i 16)) && eqb m n ≡ touches s i m
+touches-apart s i n m of = rw (of, neither (eqb i 0) (eqb i 16))
 
-module _ (d : Rows) (s : Scope) (e : Endpoint) where
-  pub touched-nowhere : s ≡ Nowhere → false ≡ touched d s e
-  unfolding touched
-  touched-nowhere of = rw of
+-- ---- a row of a mask
 
-  pub touched-everywhere : s ≡ Everywhere → true ≡ touched d s e
-  unfolding touched
-  touched-everywhere of = rw of
+pub mistyped-at : (d : Rows) (l : List ℕ) (mask k i : ℕ) (t b : Bool) → i < 32 → d .types ≡ l → t ≡ hasBit mask i → (t && not (eqb (getD l i 0) k)) ≡ b → mistyped mask k i (getD (rowsOf d) i (closedRow 0)) ≡ b
+mistyped-at d l mask k i t b h p in-mask e = rw (rows-at d i h, p, ← in-mask) e
 
-  module _ (n : ℕ) (of : s ≡ OfInterface n) (o : RowOf) (ends : o ≡ rowOf e) where
-    in-scope : (z : RowOf) → o ≡ z → touchedIn d (OfInterface n) z ≡ touched d s e
-    unfolding touched
-    in-scope z found = λ j. touchedIn d (sym of j) ((sym found ∙ ends) j)
+-- ---- the stream of one row
 
-    pub touched-found : (r : Row) → o ≡ At r → touches s (r .0) (getD (d .rows) (r .0) (closedRow 0)) ≡ touched d s e
-    touched-found r found = ap (λ (z : Scope). touches z (r .0) (getD (d .rows) (r .0) (closedRow 0))) of ∙ in-scope (At r) found
+module _ (d : Rows) (e : Endpoint) (k : ℕ) (b : Bool) (i : ℕ) (low : e .0 < 256) (row : i ≡ streamRow d e k) where
+  stored : (t : Bool) → ltb i 32 ≡ t → cond t (withStreams d (putAt 32 false (d .streams) i b)) d ≡ streamTo d e k b
+  stored t test = rw (← test, row) (sym (stream-by-row d e k b low))
 
-    pub touched-malformed : o ≡ Malformed → false ≡ touched d s e
-    touched-malformed found = in-scope Malformed found
+  pub stream-stored : length (d .streams) ≡ 32 → i < 32 → withStreams d (set (d .streams) i b) ≡ streamTo d e k b
+  stream-stored long h = ap (withStreams d) (set-put 32 false (d .streams) i b long) ∙ stored true (lt-ltb i 32 h)
+
+  pub stream-left : 32 ≤ i → d ≡ streamTo d e k b
+  stream-left h = stored false (le-ltb i 32 h)
+
+-- ---- a loop that fills the streams
+
+-- the streams of the first i rows are those of g
+abbrev pub filled : (ℕ → Bool) → Rows → ℕ → Rows
+filled g d i = withStreams d (upTo (λ (k : ℕ) (x : Bool). g k) 0 i (d .streams))
+
+module _ (g : ℕ → Bool) (d : Rows) where
+  pub filled-none : d ≡ filled g d 0
+  filled-none = ap (withStreams d) (upto-none (λ (k : ℕ) (x : Bool). g k) (d .streams))
+
+  module _ (out : Rows) (i : ℕ) (long : length (d .streams) ≡ 32) (so : out ≡ filled g d i) where
+    pub filled-more : (y : Bool) → i < 32 → y ≡ g i → withStreams out (set (out .streams) i y) ≡ filled g d (i + 1)
+    filled-more y h v =
+        let step = upto-step (λ (k : ℕ) (x : Bool). g k) i (d .streams) (out .streams) false y (rw long h) (ap (λ (r : Rows). r .streams) so) v in
+        λ j. record { types = so j .types; interfaces = so j .interfaces; streams = step j }
+
+    pub filled-all : i ≤ 32 → 32 ≤ i → out ≡ withStreams d (tabulated g 0 32)
+    filled-all low high =
+        let f : ℕ → Bool → Bool = λ k x. g k in
+        let all = upto-all f 0 i (d .streams) (omega arith) in
+        let long-too = each-length f (d .streams) 0 ∙ long in
+        let made = tabulated-is g _ 32 false long-too (λ k h. each-at f (d .streams) 0 k false (rw long h) ∙ ap g (zero-add k)) in
+        so ∙ ap (withStreams d) (all ∙ made)

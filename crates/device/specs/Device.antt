@@ -1,4 +1,4 @@
--- The device as the session knows it: whether it is there, how far it is introduced, and the rows of its endpoints with their streams.
+-- The device as the session knows it: the head, which is small, and the rows of its endpoints with their streams.
 -- Assumes nothing: these are definitions.
 use Prim.Native.Nat.{ℕ}
 use mathlib.Core.Bool.{Bool, true, false, cond, not, _&&_, _||_}
@@ -6,17 +6,17 @@ use mathlib.Core.List.{List}
 use lib.ListN.{getD, set, replicate}
 use lib.Dec.{eqb}
 use Rattle.number.specs.Bits.{hasBit}
+use Rattle.header.specs.declared.Hello.the-variants.{Awaited}
 use Rattle.endpoint.specs.declared.Endpoint.{Endpoint}
 use Rattle.endpoint.specs.declared.RowOf.{RowOf}
 use Rattle.endpoint.specs.declared.RowOf.the-variants.{At, Malformed}
 use Rattle.endpoint.specs.Endpoint.{rowOf}
-use Rattle.scan.specs.Scan.{anyAt, eachAt}
-use Rattle.device.specs.declared.RowState.{RowState}
+use Rattle.scan.specs.Scan.{anyAt, tabulated, putAt}
 use Rattle.device.specs.declared.Rows.{Rows}
 use Rattle.device.specs.declared.Scope.{Scope}
 use Rattle.device.specs.declared.Scope.the-variants.{Nowhere, Everywhere, OfInterface}
 use Rattle.device.specs.declared.Introduction.the-variants.{Nothing}
-use Rattle.device.specs.declared.Device.{Device}
+use Rattle.device.specs.declared.Head.{Head}
 
 -- ---- the types of an endpoint: "0 control, 1 iso, 2 bulk, 3 interrupt or 255 invalid"
 
@@ -37,22 +37,35 @@ invalid = 255
 
 -- ---- rows
 
+-- a row: the type and the interface of its endpoint as the endpoint table gave them, and whether its stream is open
+pub record RowState : Type 0 where
+  pub ty : ℕ
+  pub interface : ℕ
+  pub streaming : Bool
+
 -- a row of a type, of interface 0, with its stream closed
 abbrev pub closedRow : ℕ → RowState
 closedRow ty = record { ty = ty; interface = 0; streaming = false }
 
+-- row i; past the last one it reads as a closed control row
+abbrev pub rowAt : Rows → ℕ → RowState
+rowAt d i = record { ty = getD (d .types) i 0; interface = getD (d .interfaces) i 0; streaming = getD (d .streams) i false }
+
+-- the 32 rows
+unfoldable pub rowsOf : Rows → List RowState
+rowsOf d = tabulated (rowAt d) 0 32
+
 -- "Start: .. all rows invalid but 0 and 16 (control), interfaces 0, streams closed"
 unfoldable pub startRows : Rows
-startRows = record { rows = set (set (replicate 32 (closedRow invalid)) 0 (closedRow control)) 16 (closedRow control) }
+startRows = record { types = set (set (replicate 32 invalid) 0 control) 16 control; interfaces = replicate 32 0; streams = replicate 32 false }
 
--- the row of an endpoint; a byte that is no address has an invalid one. There are 32 rows, and a row's number is below 32
--- (`endpoint-back`), so the value for an index past the end is never reached, here and below.
-abbrev pub rowIn : List RowState → RowOf → RowState
-rowIn rows (At r) = getD rows (r .0) (closedRow 0)
-rowIn rows Malformed = closedRow invalid
+-- the row of an endpoint; a byte that is no address has an invalid one
+abbrev pub rowIn : Rows → RowOf → RowState
+rowIn d (At r) = rowAt d (r .0)
+rowIn d Malformed = closedRow invalid
 
 abbrev pub stateAt : Rows → Endpoint → RowState
-stateAt d e = rowIn (d .rows) (rowOf e)
+stateAt d e = rowIn d (rowOf e)
 
 -- ---- 28: "18, 19 (every mask bit)"
 
@@ -61,52 +74,49 @@ abbrev pub mistyped : ℕ → ℕ → ℕ → RowState → Bool
 mistyped mask ty i r = hasBit mask i && not (eqb (r .ty) ty)
 
 abbrev pub maskMistyped : Rows → ℕ → ℕ → Bool
-maskMistyped d mask ty = anyAt (mistyped mask ty) 0 (d .rows)
-
--- ---- "5 replaces the rows and closes streams whose row changes type."
-
--- a row and the one that takes its place
-abbrev pub replacedBy : RowState → RowState → RowState
-replacedBy new old = record { ty = new .ty; interface = new .interface; streaming = old .streaming && eqb (old .ty) (new .ty) }
-
-unfoldable pub replaced : Rows → Rows → Rows
-replaced new d = record { rows = eachAt (λ (i : ℕ) (r : RowState). replacedBy (getD (new .rows) i (closedRow 0)) r) 0 (d .rows) }
+maskMistyped d mask ty = anyAt (mistyped mask ty) 0 (rowsOf d)
 
 -- ---- streams
 
-abbrev pub withStream : Bool → RowState → RowState
-withStream b r = record { ty = r .ty; interface = r .interface; streaming = b }
+abbrev pub withStreams : Rows → List Bool → Rows
+withStreams d b = record { types = d .types; interfaces = d .interfaces; streams = b }
 
 -- the stream of a row opened or closed, "only where the row's type is that kind's"
 abbrev pub streamIn : Rows → RowOf → ℕ → Bool → Rows
-streamIn d (At r) ty b =
-    cond (eqb (getD (d .rows) (r .0) (closedRow 0) .ty) ty)
-    (record { rows = set (d .rows) (r .0) (withStream b (getD (d .rows) (r .0) (closedRow 0))) })
-    d
+streamIn d (At r) ty b = cond (eqb (rowAt d (r .0) .ty) ty) (withStreams d (putAt 32 false (d .streams) (r .0) b)) d
 streamIn d Malformed ty b = d
 
 unfoldable pub streamTo : Rows → Endpoint → ℕ → Bool → Rows
 streamTo d e ty b = streamIn d (rowOf e) ty b
 
+-- ---- "5 replaces the rows and closes streams whose row changes type."
+
+unfoldable pub replaced : Rows → Rows → Rows
+replaced new d =
+    record {
+      types = new .types;
+      interfaces = new .interfaces;
+      streams = tabulated (λ (i : ℕ). rowAt d i .streaming && eqb (rowAt d i .ty) (rowAt new i .ty)) 0 32;
+    }
+
 -- ---- the rows whose requests and streams a passed packet ends
 
 -- "for rows other than 0 and 16 of that interface"
-abbrev pub touches : Scope → ℕ → RowState → Bool
-touches Nowhere i r = false
-touches Everywhere i r = true
-touches (OfInterface n) i r = not (eqb i 0 || eqb i 16) && eqb (r .interface) n
-
-abbrev pub closedBy : Scope → ℕ → RowState → RowState
-closedBy s i r = cond (touches s i r) (withStream false r) r
+abbrev pub touches : Scope → ℕ → ℕ → Bool
+touches Nowhere i interface = false
+touches Everywhere i interface = true
+touches (OfInterface n) i interface = not (eqb i 0 || eqb i 16) && eqb interface n
 
 unfoldable pub closed : Rows → Scope → Rows
-closed d s = record { rows = eachAt (closedBy s) 0 (d .rows) }
+closed d Nowhere = d
+closed d Everywhere = withStreams d (replicate 32 false)
+closed d (OfInterface n) = withStreams d (tabulated (λ (i : ℕ). rowAt d i .streaming && not (touches (OfInterface n) i (rowAt d i .interface))) 0 32)
 
 -- the row of an endpoint is one of them; a byte that is no address has no row of an interface
 abbrev pub touchedIn : Rows → Scope → RowOf → Bool
 touchedIn d Nowhere r = false
 touchedIn d Everywhere r = true
-touchedIn d (OfInterface n) (At r) = touches (OfInterface n) (r .0) (getD (d .rows) (r .0) (closedRow 0))
+touchedIn d (OfInterface n) (At r) = touches (OfInterface n) (r .0) (rowAt d (r .0) .interface)
 touchedIn d (OfInterface n) Malformed = false
 
 unfoldable pub touched : Rows → Scope → Endpoint → Bool
@@ -115,10 +125,11 @@ touched d s e = touchedIn d s (rowOf e)
 -- ---- 43: "row 0 or 16 not control"
 
 abbrev pub controlRows : Rows → Bool
-controlRows d = eqb (getD (d .rows) 0 (closedRow 0) .ty) control && eqb (getD (d .rows) 16 (closedRow 0) .ty) control
+controlRows d = eqb (rowAt d 0 .ty) control && eqb (rowAt d 16 .ty) control
 
--- ---- the device
+-- ---- the head
 
--- "Start: no device, no introduction, ..", with an ack owed or not
-unfoldable pub startDevice : Bool → Device
-startDevice owed = record { present = false; introduction = Nothing; owed = owed; rows = startRows }
+-- no hello has passed, nothing is held; "Start: no device, no introduction, .."
+unfoldable pub startHead : Head
+startHead =
+    record { guest = Awaited; host = Awaited; stopped = false; held = record { guest = 0; host = 0 }; present = false; introduction = Nothing; owed = false }

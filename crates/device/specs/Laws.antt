@@ -1,33 +1,57 @@
--- Laws of the rows: which changes of them leave their number, their types, and rows 0 and 16 control.
--- Closing a scope changes each row, and opening or closing a stream one of them, but never a row's type: so the types stay at every index
--- (`each-keeps`, `set-keeps`), and with them both control rows. A new endpoint table has the types of the new rows; a row past the end reads as
--- control (`replaced-row`).
+-- Laws of the rows: what each change leaves at a row, that none but a new endpoint table changes a type, and what reads one column only.
+-- A column that a change makes is tabulated, so that its value at each of the 32 rows is that of its function (`tabulated-at`), whatever was
+-- there before; the others are as they were. Rows 0 and 16 are control by their types alone (`closed-control`, `stream-control`,
+-- `replaced-control`). A stream that a packet moves is at the row of its endpoint, which is below 32 (`stream-by-row`).
 -- Assumes nothing.
-use Prim.Native.Nat.{ℕ, _<_}
-use mathlib.Core.Path.{_≡_, refl, ap, _∙_}
-use mathlib.Core.Bool.{Bool, true, false, cond, _&&_}
+use Prim.Native.Nat.{ℕ, _+_, _<_}
+use mathlib.Core.Path.{_≡_, refl, sym, ap, _∙_}
+use mathlib.Core.Bool.{Bool, true, false, cond, not, _&&_, _||_, and-true, and-false}
+use mathlib.Core.List.{List}
 use native.Mathlib.Nat.{zero-add}
-use native.Mathlib.Omega.{arith}
-use native.Mathlib.Decide.{decLt}
-use lib.ListN.{length, getD, set, length-set, List·getD-eq-default}
-use lib.Dec.{eqb}
-use Rattle.number.specs.Logic.{and-parts, and-whole}
+use lib.ListN.{length, getD, set, replicate, getD-replicate}
+use lib.Dec.{eqb, ltb}
+use borrow.Author.Tests.{eqb-true, eqb-false, eq-eqb, ne-eqb, lt-ltb, not-false}
+use borrow.Table.Steps.{cases}
+use Rattle.number.specs.Bits.{hasBit}
+use Rattle.number.specs.Logic.{fails, failing, false-not}
 use Rattle.endpoint.specs.declared.Endpoint.{Endpoint}
 use Rattle.endpoint.specs.declared.RowOf.{RowOf}
 use Rattle.endpoint.specs.declared.RowOf.the-variants.{At, Malformed}
 use Rattle.endpoint.specs.Endpoint.{rowOf}
-use Rattle.scan.specs.Laws.{each-length, each-at, each-keeps, each-same, set-keeps}
-use Rattle.device.specs.declared.RowState.{RowState}
+use Rattle.endpoint.specs.Laws.{endpoint-back}
+use Rattle.scan.specs.Scan.{putAt}
+use Rattle.scan.specs.Laws.{getD-set, any-absent, any-not, tabulated-length, tabulated-at}
 use Rattle.device.specs.declared.Rows.{Rows}
 use Rattle.device.specs.declared.Scope.{Scope}
-use Rattle.device.specs.declared.Scope.the-variants.{Nowhere}
-use Rattle.device.specs.Device.{control, closedRow, startRows, replaced, withStream, streamIn, streamTo, touches, closedBy, closed, controlRows}
+use Rattle.device.specs.declared.Scope.the-variants.{Nowhere, Everywhere, OfInterface}
+use Rattle.device.specs.Device.{control, invalid, RowState, closedRow, rowAt, rowsOf, startRows, stateAt, rowIn, mistyped, maskMistyped, withStreams, streamIn, streamTo, replaced, touches, closed, touchedIn, touched, controlRows}
+use Rattle.device.specs.Columns.{streamRowIn, streamRow}
 
--- rows of the same types are alike in their control rows
-same-control : (a b : Rows) → getD (a .rows) 0 (closedRow 0) .ty ≡ getD (b .rows) 0 (closedRow 0) .ty → getD (a .rows) 16 (closedRow 0) .ty ≡ getD (b .rows) 16 (closedRow 0) .ty → controlRows a ≡ controlRows b
-same-control a b out inward = λ j. eqb (out j) control && eqb (inward j) control
+-- ---- the rows as a list
+
+pub rows-length : (d : Rows) → length (rowsOf d) ≡ 32
+unfolding rowsOf
+rows-length d = tabulated-length (rowAt d) 0 32
+
+pub rows-at : (d : Rows) (i : ℕ) → i < 32 → getD (rowsOf d) i (closedRow 0) ≡ rowAt d i
+unfolding rowsOf
+rows-at d i h = tabulated-at (rowAt d) 32 i (closedRow 0) h
 
 -- ---- the start
+
+pub start-at : (r : ℕ) → r < 32 → rowAt startRows r ≡ closedRow (cond (eqb r 0 || eqb r 16) control invalid)
+unfolding startRows
+start-at r h = λ j. record { ty = type j; interface = getD-replicate 32 r 0 0 h j; streaming = getD-replicate 32 r false false h j }
+  where
+    either : (a b : Bool) (x y : ℕ) → cond b x (cond a x y) ≡ cond (a || b) x y
+    either true true x y = refl
+    either true false x y = refl
+    either false b x y = refl
+
+    type : getD (set (set (replicate 32 invalid) 0 control) 16 control) r 0 ≡ cond (eqb r 0 || eqb r 16) control invalid
+    type =
+        rw (getD-set (set (replicate 32 invalid) 0 control) 16 r control 0 h, getD-set (replicate 32 invalid) 0 r control 0 h, getD-replicate 32 r invalid 0 h)
+        (either (eqb r 0) (eqb r 16) control invalid)
 
 pub start-control : controlRows startRows ≡ true
 unfolding startRows
@@ -35,76 +59,137 @@ start-control = refl
 
 -- ---- closing the streams of a scope
 
-closed-by-type : (s : Scope) (i : ℕ) (r : RowState) → closedBy s i r .ty ≡ r .ty
-closed-by-type s i r = either (touches s i r)
-  where
-    either : (b : Bool) → cond b (withStream false r) r .ty ≡ r .ty
-    either true = refl
-    either false = refl
+-- a row with its stream set
+abbrev pub withStream : Bool → RowState → RowState
+withStream b r = record { ty = r .ty; interface = r .interface; streaming = b }
 
-pub closed-length : (d : Rows) (s : Scope) → length (closed d s .rows) ≡ length (d .rows)
+pub closed-at : (d : Rows) (s : Scope) (r : ℕ) → r < 32 → rowAt (closed d s) r ≡ withStream (rowAt d r .streaming && not (touches s r (rowAt d r .interface))) (rowAt d r)
 unfolding closed
-closed-length d s = each-length (closedBy s) (d .rows) 0
-
-closed-type : (d : Rows) (s : Scope) (k : ℕ) → getD (closed d s .rows) k (closedRow 0) .ty ≡ getD (d .rows) k (closedRow 0) .ty
-unfolding closed
-closed-type d s k = each-keeps (closedBy s) (λ (r : RowState). r .ty) (closed-by-type s) (d .rows) 0 k (closedRow 0)
+closed-at d Nowhere r h = λ j. withStream (sym (and-true (rowAt d r .streaming)) j) (rowAt d r)
+closed-at d Everywhere r h = λ j. withStream ((getD-replicate 32 r false false h ∙ sym (and-false (rowAt d r .streaming))) j) (rowAt d r)
+closed-at d (OfInterface n) r h = λ j. withStream (tabulated-at (λ (i : ℕ). rowAt d i .streaming && not (touches (OfInterface n) i (rowAt d i .interface))) 32 r false h j) (rowAt d r)
 
 pub closed-control : (d : Rows) (s : Scope) → controlRows (closed d s) ≡ controlRows d
-closed-control d s = same-control (closed d s) d (closed-type d s 0) (closed-type d s 16)
-
--- ---- opening or closing the stream of an endpoint
-
--- what a change of the stream of any one row keeps is kept
-stream-keeps : {X : Type 0} (g : Rows → X) (d : Rows) (e : Endpoint) (k : ℕ) (b : Bool) → ((i : ℕ) → g (record { rows = set (d .rows) i (withStream b (getD (d .rows) i (closedRow 0))) }) ≡ g d) → g (streamTo d e k b) ≡ g d
-unfolding streamTo
-stream-keeps {X} g d e k b h = at (rowOf e)
-  where
-    either : (t : Bool) (i : ℕ) → g (cond t (record { rows = set (d .rows) i (withStream b (getD (d .rows) i (closedRow 0))) }) d) ≡ g d
-    either true i = h i
-    either false i = refl
-
-    at : (o : RowOf) → g (streamIn d o k b) ≡ g d
-    at (At r) = either (eqb (getD (d .rows) (r .0) (closedRow 0) .ty) k) (r .0)
-    at Malformed = refl
-
-pub stream-length : (d : Rows) (e : Endpoint) (k : ℕ) (b : Bool) → length (streamTo d e k b .rows) ≡ length (d .rows)
-stream-length d e k b = stream-keeps (λ (a : Rows). length (a .rows)) d e k b (λ (i : ℕ). length-set (d .rows) i _)
-
-stream-type : (d : Rows) (e : Endpoint) (k : ℕ) (b : Bool) (n : ℕ) → getD (streamTo d e k b .rows) n (closedRow 0) .ty ≡ getD (d .rows) n (closedRow 0) .ty
-stream-type d e k b n = stream-keeps (λ (a : Rows). getD (a .rows) n (closedRow 0) .ty) d e k b (λ (i : ℕ). set-keeps (λ (r : RowState). r .ty) (d .rows) i n (closedRow 0) _ refl)
-
-pub stream-control : (d : Rows) (e : Endpoint) (k : ℕ) (b : Bool) → controlRows (streamTo d e k b) ≡ controlRows d
-stream-control d e k b = same-control (streamTo d e k b) d (stream-type d e k b 0) (stream-type d e k b 16)
-
--- ---- a new endpoint table
-
-pub replaced-length : (new d : Rows) → length (replaced new d .rows) ≡ length (d .rows)
-unfolding replaced
-replaced-length new d = each-length _ (d .rows) 0
-
-replaced-type : (new d : Rows) (k : ℕ) → k < length (d .rows) → getD (replaced new d .rows) k (closedRow 0) .ty ≡ getD (new .rows) k (closedRow 0) .ty
-unfolding replaced
-replaced-type new d k h = ap (λ (r : RowState). r .ty) (each-at _ (d .rows) 0 k (closedRow 0) h) ∙ ap (λ (i : ℕ). getD (new .rows) i (closedRow 0) .ty) (zero-add k)
-
--- a row past the end reads as control
-replaced-row : (new d : Rows) (k : ℕ) → eqb (getD (new .rows) k (closedRow 0) .ty) control ≡ true → eqb (getD (replaced new d .rows) k (closedRow 0) .ty) control ≡ true
-replaced-row new d k c = elim (decLt k (length (d .rows))) [
-  | yes h ↦ rw (replaced-type new d k h) c
-  | no h ↦ ap (λ (r : RowState). eqb (r .ty) control) (List·getD-eq-default (replaced new d .rows) (closedRow 0) {n = k} (omega (arith, replaced-length new d)))
-]
-
-pub replaced-control : (new d : Rows) → controlRows new ≡ true → controlRows (replaced new d) ≡ true
-replaced-control new d c = let p = and-parts _ _ c in and-whole _ _ (replaced-row new d 0 (p .0)) (replaced-row new d 16 (p .1))
-
--- ---- a scope of no row
+unfolding closed
+closed-control d Nowhere = refl
+closed-control d Everywhere = refl
+closed-control d (OfInterface n) = refl
 
 pub closed-nowhere : (d : Rows) → closed d Nowhere ≡ d
 unfolding closed
-closed-nowhere d = λ j. record { rows = each-same (closedBy Nowhere) (λ i r. refl) (d .rows) 0 j }
+closed-nowhere d = refl
 
--- ---- the number of rows at the start
+-- ---- opening or closing the stream of an endpoint
 
-pub start-length : length (startRows .rows) ≡ 32
-unfolding startRows
-start-length = refl
+-- r is the row that was found
+abbrev pub isRow : RowOf → ℕ → Bool
+isRow (At q) r = eqb (q .0) r
+isRow Malformed r = false
+
+-- a value that changes at q, where q passes the test
+moved : (t : ℕ → Bool) (q r : ℕ) (b x : Bool) → cond (t q) (cond (eqb r q) b x) x ≡ cond (eqb q r && t r) b x
+moved t q r b x = cases (eqb q r) there elsewhere
+  where
+    same : (a : Bool) → cond a x x ≡ x
+    same true = refl
+    same false = refl
+
+    there : eqb q r ≡ true → cond (t q) (cond (eqb r q) b x) x ≡ cond (eqb q r && t r) b x
+    there e = let p : q ≡ r = eqb-true q r e in rw (e, eq-eqb r q (sym p)) (ap (λ (i : ℕ). cond (t i) b x) p)
+
+    elsewhere : eqb q r ≡ false → cond (t q) (cond (eqb r q) b x) x ≡ cond (eqb q r && t r) b x
+    elsewhere e = rw (e, ne-eqb r q (λ p. eqb-false q r e (sym p))) (same (t q))
+
+pub stream-at : (d : Rows) (e : Endpoint) (k : ℕ) (b : Bool) (r : ℕ) → r < 32 → rowAt (streamTo d e k b) r ≡ withStream (cond (isRow (rowOf e) r && eqb (rowAt d r .ty) k) b (rowAt d r .streaming)) (rowAt d r)
+unfolding streamTo
+stream-at d e k b r h = at (rowOf e)
+  where
+    either : (t : Bool) (q : ℕ) → rowAt (cond t (withStreams d (putAt 32 false (d .streams) q b)) d) r ≡ withStream (cond t (cond (eqb r q) b (rowAt d r .streaming)) (rowAt d r .streaming)) (rowAt d r)
+    either true q = λ j. withStream (tabulated-at (λ (i : ℕ). cond (eqb i q) b (rowAt d i .streaming)) 32 r false h j) (rowAt d r)
+    either false q = refl
+
+    at : (o : RowOf) → rowAt (streamIn d o k b) r ≡ withStream (cond (isRow o r && eqb (rowAt d r .ty) k) b (rowAt d r .streaming)) (rowAt d r)
+    at (At q) = either (eqb (rowAt d (q .0) .ty) k) (q .0) ∙ (λ j. withStream (moved (λ (i : ℕ). eqb (rowAt d i .ty) k) (q .0) r b (rowAt d r .streaming) j) (rowAt d r))
+    at Malformed = refl
+
+pub stream-control : (d : Rows) (e : Endpoint) (k : ℕ) (b : Bool) → controlRows (streamTo d e k b) ≡ controlRows d
+unfolding streamTo
+stream-control d e k b = at (rowOf e)
+  where
+    either : (t : Bool) (l : List Bool) → controlRows (cond t (withStreams d l) d) ≡ controlRows d
+    either true l = refl
+    either false l = refl
+
+    at : (o : RowOf) → controlRows (streamIn d o k b) ≡ controlRows d
+    at (At q) = either (eqb (rowAt d (q .0) .ty) k) (putAt 32 false (d .streams) (q .0) b)
+    at Malformed = refl
+
+-- the change is a store at one row
+pub stream-by-row : (d : Rows) (e : Endpoint) (k : ℕ) (b : Bool) → e .0 < 256 → streamTo d e k b ≡ cond (ltb (streamRow d e k) 32) (withStreams d (putAt 32 false (d .streams) (streamRow d e k) b)) d
+unfolding streamTo streamRow
+stream-by-row d e k b low = at (rowOf e) refl
+  where
+    store : ℕ → Rows
+    store i = withStreams d (putAt 32 false (d .streams) i b)
+
+    either : (t : Bool) (q : ℕ) → q < 32 → cond t (store q) d ≡ cond (ltb (cond t q 32) 32) (store (cond t q 32)) d
+    either true q h = rw (lt-ltb q 32 h)
+    either false q h = refl
+
+    at : (o : RowOf) → rowOf e ≡ o → streamIn d o k b ≡ cond (ltb (streamRowIn d o k) 32) (store (streamRowIn d o k)) d
+    at (At q) found = either (eqb (rowAt d (q .0) .ty) k) (q .0) (endpoint-back e q low found .1)
+    at Malformed found = refl
+
+-- ---- a new endpoint table
+
+pub replaced-at : (new d : Rows) (r : ℕ) → r < 32 → rowAt (replaced new d) r ≡ withStream (rowAt d r .streaming && eqb (rowAt d r .ty) (rowAt new r .ty)) (rowAt new r)
+unfolding replaced
+replaced-at new d r h = λ j. withStream (tabulated-at (λ (i : ℕ). rowAt d i .streaming && eqb (rowAt d i .ty) (rowAt new i .ty)) 32 r false h j) (rowAt new r)
+
+pub replaced-control : (new d : Rows) → controlRows (replaced new d) ≡ controlRows new
+unfolding replaced
+replaced-control new d = refl
+
+-- ---- the rows of a mask
+
+pub mask-absent : (d : Rows) (mask k : ℕ) → maskMistyped d mask k ≡ false → (r : ℕ) → r < 32 → hasBit mask r ≡ true → rowAt d r .ty ≡ k
+mask-absent d mask k e r h set =
+    let here : mistyped mask k r (rowAt d r) ≡ false =
+    (λ j. mistyped mask k (sym (zero-add r) j) (sym (rows-at d r h) j)) ∙ any-absent (mistyped mask k) (rowsOf d) 0 (closedRow 0) e r (rw (rows-length d) h) in
+    eqb-true (rowAt d r .ty) k (not-false (eqb (rowAt d r .ty) k) (fails (hasBit mask r) (not (eqb (rowAt d r .ty) k)) here set))
+
+pub mask-none : (d : Rows) (mask k : ℕ) → ((r : ℕ) → r < 32 → hasBit mask r ≡ true → rowAt d r .ty ≡ k) → maskMistyped d mask k ≡ false
+mask-none d mask k f = any-not (mistyped mask k) (rowsOf d) 0 (closedRow 0) each
+  where
+    each : (r : ℕ) → r < length (rowsOf d) → mistyped mask k (0 + r) (getD (rowsOf d) r (closedRow 0)) ≡ false
+    each r g =
+        let h : r < 32 = rw (rows-length d) at g in
+        rw (zero-add r, rows-at d r h)
+        (failing (hasBit mask r) (not (eqb (rowAt d r .ty) k)) (λ set. false-not (eqb (rowAt d r .ty) k) (eq-eqb (rowAt d r .ty) k (f r h set))))
+
+-- ---- what reads one column only
+
+module _ (c d : Rows) where
+  pub same-type : (e : Endpoint) → c .types ≡ d .types → stateAt c e .ty ≡ stateAt d e .ty
+  same-type e p = at (rowOf e)
+    where
+      at : (o : RowOf) → rowIn c o .ty ≡ rowIn d o .ty
+      at (At q) = ap (λ (l : List ℕ). getD l (q .0) 0) p
+      at Malformed = refl
+
+  pub same-streaming : (e : Endpoint) → c .streams ≡ d .streams → stateAt c e .streaming ≡ stateAt d e .streaming
+  same-streaming e p = at (rowOf e)
+    where
+      at : (o : RowOf) → rowIn c o .streaming ≡ rowIn d o .streaming
+      at (At q) = ap (λ (l : List Bool). getD l (q .0) false) p
+      at Malformed = refl
+
+  pub same-touched : (s : Scope) (e : Endpoint) → c .interfaces ≡ d .interfaces → touched c s e ≡ touched d s e
+  unfolding touched
+  same-touched s e p = at s (rowOf e)
+    where
+      at : (s : Scope) (o : RowOf) → touchedIn c s o ≡ touchedIn d s o
+      at Nowhere o = refl
+      at Everywhere o = refl
+      at (OfInterface n) (At q) = ap (λ (l : List ℕ). touches (OfInterface n) (q .0) (getD l (q .0) 0)) p
+      at (OfInterface n) Malformed = refl

@@ -1,26 +1,22 @@
-// The device as the session knows it: whether it is there, how far it is introduced, whether its disconnect is still to be
-// acknowledged, and the rows of its endpoints with their streams.
+// The device as the session knows it: its head, which is small and changes often, and the rows of its endpoints with their streams.
 ghost use mathlib.Core.Path.{_≡_};
-ghost use mathlib.Core.Bool.{_&&_, not};
-ghost use lib.Dec.{eqb};
-ghost use Rattle.number.specs.Bits.{hasBit};
-ghost use Rattle.device.specs.Device.{closedRow, startRows, stateAt, mistyped, maskMistyped, replacedBy, replaced, withStream, streamTo, touches, closedBy, closed, touched, controlRows, startDevice};
+ghost use Rattle.device.specs.Device.{startRows, startHead, stateAt, maskMistyped, replaced, streamTo, touches, closed, touched, controlRows};
+ghost use Rattle.device.specs.Columns.{streamRow};
+ghost use Rattle.device.specs.declared.Rows.{Rows};
+ghost use Rattle.device.specs.declared.Scope.the-variants.{OfInterface};
 use endpoint::Endpoint;
 use endpoint::Row;
 use endpoint::RowOf;
 use endpoint::in_mask;
 use endpoint::row_of;
+use header::Hello;
 
-// A row: the type and the interface of its endpoint as the endpoint table gave them, and whether its stream is open.
-pub struct RowState {
-    // the endpoint's type
-    pub ty: u8,
-    pub interface: u8,
-    pub streaming: bool,
-}
-
+// The rows of the endpoints, a column for each thing that is kept of them: type and interface as the endpoint table gave them, and
+// whether the stream is open.
 pub struct Rows {
-    pub rows: [RowState; 32],
+    pub types: [u8; 32],
+    pub interfaces: [u8; 32],
+    pub streams: [bool; 32],
 }
 
 // How far a device is introduced: not, by its endpoints, by its endpoints and then its interfaces.
@@ -30,12 +26,22 @@ pub enum Introduction {
     Two,
 }
 
-pub struct Device {
+// The bytes of an unfinished packet that each direction holds.
+pub struct Held {
+    pub guest: usize,
+    pub host: usize,
+}
+
+// What is small and changes often: both hellos, whether the session is stopped, what is held, whether the device is there, how far it is
+// introduced, and whether the ack of its last disconnect is owed.
+pub struct Head {
+    pub guest: Hello,
+    pub host: Hello,
+    pub stopped: bool,
+    pub held: Held,
     pub present: bool,
     pub introduction: Introduction,
-    // an ack of the last disconnect is owed
     pub owed: bool,
-    pub rows: Rows,
 }
 
 // The rows whose data requests and streams a packet ends.
@@ -45,13 +51,22 @@ pub enum Scope {
     OfInterface(u8),
 }
 
-fn closed_row(ty: u8) -> RowState
-    ensures { λ r. ⌜ r ≡ closedRow ty ⌝ }
+// A head at the start.
+pub fn start_head() -> Head
+    ensures { λ r. ⌜ r ≡ startHead ⌝ }
 {
-    RowState {
-        ty,
-        interface: 0,
-        streaming: false,
+    let guest = Hello::Awaited;
+    let host = Hello::Awaited;
+    let held = Held { guest: 0, host: 0 };
+    let introduction = Introduction::Nothing;
+    Head {
+        guest,
+        host,
+        stopped: false,
+        held,
+        present: false,
+        introduction,
+        owed: false,
     }
 }
 
@@ -59,55 +74,54 @@ fn closed_row(ty: u8) -> RowState
 pub fn start_rows() -> Rows
     ensures { λ r. ⌜ r ≡ startRows ⌝ }
 {
-    let invalid = closed_row(255);
-    let control = closed_row(0);
-    let mut rows = [invalid; 32];
-    rows[0] = control;
-    rows[16] = control;
-    Rows { rows }
-}
-
-// No device, no introduction, all as at the start.
-pub fn start_device(owed: bool) -> Device
-    ensures { λ r. ⌜ r ≡ startDevice owed ⌝ }
-{
-    Device {
-        present: false,
-        introduction: Introduction::Nothing,
-        owed,
-        rows: start_rows(),
+    let mut types: [u8; 32] = [255; 32];
+    types[0] = 0;
+    types[16] = 0;
+    let interfaces: [u8; 32] = [0; 32];
+    let streams: [bool; 32] = [false; 32];
+    Rows {
+        types,
+        interfaces,
+        streams,
     }
 }
 
-// The row of an endpoint, an invalid one where its byte is no address.
-pub fn state_at(rows: Rows, e: Endpoint) -> RowState
-    ensures { λ r. ⌜ r ≡ stateAt rows e ⌝ }
+// The type of an endpoint's row, invalid where its byte is no address.
+pub fn type_at(types: &[u8; 32], e: Endpoint) -> u8
+    ensures { λ r. ⌜ ((d : Rows) → d .types ≡ now (types .entry) → r ≡ stateAt d e .ty) ⌝ }
 {
     let found = row_of(e);
     match found {
         RowOf::At(r) => {
             let i = r.0 as usize;
-            rows.rows[i]
+            types[i]
         }
-        RowOf::Malformed => closed_row(255),
+        RowOf::Malformed => 255,
     }
 }
 
-fn is_mistyped(mask: u32, ty: u8, row: Row, r: RowState) -> bool
-    ensures { λ b. ⌜ b ≡ mistyped mask ty (row .0) r ⌝ }
+// The stream of an endpoint's row is open.
+pub fn is_streaming(streams: &[bool; 32], e: Endpoint) -> bool
+    ensures { λ r. ⌜ ((d : Rows) → d .streams ≡ now (streams .entry) → r ≡ stateAt d e .streaming) ⌝ }
 {
-    in_mask(mask, row) & (r.ty != ty)
+    let found = row_of(e);
+    match found {
+        RowOf::At(r) => {
+            let i = r.0 as usize;
+            streams[i]
+        }
+        RowOf::Malformed => false,
+    }
 }
 
 // A row of the mask has another type than this.
-pub fn mask_mistyped(rows: Rows, mask: u32, ty: u8) -> bool
-    ensures { λ r. ⌜ r ≡ maskMistyped rows mask ty ⌝ }
+pub fn mask_mistyped(types: &[u8; 32], mask: u32, ty: u8) -> bool
+    ensures { λ r. ⌜ ((d : Rows) → d .types ≡ now (types .entry) → r ≡ maskMistyped d mask ty) ⌝ }
 {
     let mut i: usize = 0;
     while i < 32 {
-        let r = rows.rows[i];
         let number = i as u8;
-        if is_mistyped(mask, ty, Row(number), r) {
+        if in_mask(mask, Row(number)) & (types[i] != ty) {
             return true;
         }
         i += 1;
@@ -115,38 +129,24 @@ pub fn mask_mistyped(rows: Rows, mask: u32, ty: u8) -> bool
     false
 }
 
-fn replaced_by(new: RowState, old: RowState) -> RowState
-    ensures { λ r. ⌜ r ≡ replacedBy new old ⌝ }
+// Rows 0 and 16 are control.
+pub fn has_control_rows(types: &[u8; 32]) -> bool
+    ensures { λ r. ⌜ ((d : Rows) → d .types ≡ now (types .entry) → r ≡ controlRows d) ⌝ }
 {
-    RowState {
-        ty: new.ty,
-        interface: new.interface,
-        streaming: old.streaming & (old.ty == new.ty),
-    }
+    (types[0] == 0) & (types[16] == 0)
 }
 
-// The rows that an endpoint table announces in place of these; the stream of a row that changes its type is closed.
-pub fn replace(rows: Rows, new: Rows) -> Rows
-    ensures { λ r. ⌜ r ≡ replaced new rows ⌝ }
+// The row of an endpoint where it has this type, 32 where there is none such.
+pub fn stream_row(types: &[u8; 32], e: Endpoint, ty: u8) -> usize
+    ensures { λ r. ⌜ ((d : Rows) → d .types ≡ now (types .entry) → r ≡ streamRow d e ty) ⌝ }
 {
-    let mut out = rows;
-    let mut i: usize = 0;
-    while i < 32 {
-        let n = new.rows[i];
-        let o = out.rows[i];
-        out.rows[i] = replaced_by(n, o);
-        i += 1;
-    }
-    out
-}
-
-fn with_stream(r: RowState, streaming: bool) -> RowState
-    ensures { λ s. ⌜ s ≡ withStream streaming r ⌝ }
-{
-    RowState {
-        ty: r.ty,
-        interface: r.interface,
-        streaming,
+    let found = row_of(e);
+    match found {
+        RowOf::At(r) => {
+            let i = r.0 as usize;
+            if types[i] == ty { i } else { 32 }
+        }
+        RowOf::Malformed => 32,
     }
 }
 
@@ -155,57 +155,69 @@ pub fn set_stream(rows: Rows, e: Endpoint, ty: u8, streaming: bool) -> Rows
     ensures { λ r. ⌜ r ≡ streamTo rows e ty streaming ⌝ }
 {
     let mut out = rows;
-    let found = row_of(e);
-    match found {
-        RowOf::At(r) => {
-            let i = r.0 as usize;
-            let old = out.rows[i];
-            if old.ty == ty {
-                out.rows[i] = with_stream(old, streaming);
-            }
-            out
-        }
-        RowOf::Malformed => out,
+    let row = stream_row(&rows.types, e, ty);
+    if row < 32 {
+        out.streams[row] = streaming;
     }
+    out
 }
 
-fn is_touched(s: Scope, i: usize, r: RowState) -> bool
-    ensures { λ b. ⌜ b ≡ touches s i r ⌝ }
+// The rows that an endpoint table announces in place of these; the stream of a row that changes its type is closed.
+pub fn replace(rows: Rows, new: Rows) -> Rows
+    ensures { λ r. ⌜ r ≡ replaced new rows ⌝ }
+{
+    let mut out = new;
+    let mut i: usize = 0;
+    while i < 32 {
+        let open = rows.streams[i] & (rows.types[i] == new.types[i]);
+        out.streams[i] = open;
+        i += 1;
+    }
+    out
+}
+
+fn is_touched(s: Scope, i: usize, interface: u8) -> bool
+    ensures { λ b. ⌜ b ≡ touches s i interface ⌝ }
 {
     match s {
         Scope::Nowhere => false,
         Scope::Everywhere => true,
-        Scope::OfInterface(n) => (i != 0) & (i != 16) & (r.interface == n),
+        Scope::OfInterface(n) => (i != 0) & (i != 16) & (interface == n),
     }
 }
 
-fn close_row(s: Scope, i: usize, r: RowState) -> RowState
-    ensures { λ t. ⌜ t ≡ closedBy s i r ⌝ }
+fn close_interface(rows: Rows, n: u8) -> Rows
+    ensures { λ r. ⌜ r ≡ closed rows (OfInterface n) ⌝ }
 {
-    if is_touched(s, i, r) {
-        with_stream(r, false)
-    } else {
-        r
+    let mut out = rows;
+    let mut i: usize = 0;
+    while i < 32 {
+        let open = rows.streams[i] & !is_touched(Scope::OfInterface(n), i, rows.interfaces[i]);
+        out.streams[i] = open;
+        i += 1;
     }
+    out
 }
 
 // Closes the streams of these rows.
 pub fn close(rows: Rows, s: Scope) -> Rows
     ensures { λ r. ⌜ r ≡ closed rows s ⌝ }
 {
-    let mut out = rows;
-    let mut i: usize = 0;
-    while i < 32 {
-        let old = out.rows[i];
-        out.rows[i] = close_row(s, i, old);
-        i += 1;
+    match s {
+        Scope::Nowhere => rows,
+        Scope::Everywhere => {
+            let mut out = rows;
+            let streams: [bool; 32] = [false; 32];
+            out.streams = streams;
+            out
+        }
+        Scope::OfInterface(n) => close_interface(rows, n),
     }
-    out
 }
 
 // The row of an endpoint is one of these.
-pub fn touches_endpoint(rows: Rows, s: Scope, e: Endpoint) -> bool
-    ensures { λ b. ⌜ b ≡ touched rows s e ⌝ }
+pub fn touches_endpoint(interfaces: &[u8; 32], s: Scope, e: Endpoint) -> bool
+    ensures { λ b. ⌜ ((d : Rows) → d .interfaces ≡ now (interfaces .entry) → b ≡ touched d s e) ⌝ }
 {
     match s {
         Scope::Nowhere => false,
@@ -215,19 +227,10 @@ pub fn touches_endpoint(rows: Rows, s: Scope, e: Endpoint) -> bool
             match found {
                 RowOf::At(r) => {
                     let i = r.0 as usize;
-                    is_touched(s, i, rows.rows[i])
+                    is_touched(s, i, interfaces[i])
                 }
                 RowOf::Malformed => false,
             }
         }
     }
-}
-
-// Rows 0 and 16 are control.
-pub fn has_control_rows(rows: Rows) -> bool
-    ensures { λ b. ⌜ b ≡ controlRows rows ⌝ }
-{
-    let out = rows.rows[0];
-    let inward = rows.rows[16];
-    (out.ty == 0) & (inward.ty == 0)
 }

@@ -26,9 +26,9 @@ use Rattle.packet.specs.Packet.{partNamed}
 use Rattle.packet.specs.Same.{shown-same}
 use Rattle.session.specs.declared.Session.{Session}
 use Rattle.session.specs.Session.{freshSession, linkOf}
-use Rattle.verdict.specs.declared.Handed.{Handed}
-use Rattle.verdict.specs.declared.Handed.the-variants.{Nothing, Passed}
-use Rattle.verdict.specs.Verdict.{handedAs}
+use Rattle.gate.specs.declared.Handed.{Handed}
+use Rattle.gate.specs.declared.Handed.the-variants.{Nothing, Passed}
+use Rattle.gate.specs.Verdict.{handedAs}
 use Rattle.gate.specs.declared.Answer.{Answer}
 use Rattle.gate.specs.declared.Offered.{Offered}
 use Rattle.frame.specs.Frame.{bytesAt}

@@ -3,8 +3,8 @@
 use Prim.Native.Nat.{ℕ, _+_, _%_, _^_}
 use mathlib.Core.List.{List}
 use Rattle.packet.specs.Packet.{partNamed}
-use Rattle.verdict.specs.declared.Handed.{Handed}
-use Rattle.verdict.specs.declared.Handed.the-variants.{Nothing, Passed}
+use Rattle.gate.specs.declared.Handed.{Handed}
+use Rattle.gate.specs.declared.Handed.the-variants.{Nothing, Passed}
 use Rattle.gate.specs.declared.Answer.{Answer}
 use Rattle.drive.specs.declared.Data.{Data}
 use Rattle.drive.specs.Drive.{placeNumber, recordBytes}

@@ -8,6 +8,7 @@ ghost use Rattle.drive.specs.Drive.{placeNumber, Drives};
 ghost use Rattle.drive.specs.Steps.{spanOf, answerBytes};
 use frame::Place;
 use gate::Answer;
+use gate::Handed;
 use gate::offer;
 use header::Side;
 use header::side_of;
@@ -18,7 +19,6 @@ use number::put;
 use packet::part_named;
 use session::Session;
 use session::fresh_session;
-use verdict::Handed;
 
 // Where the part that a packet names stands among the packet's bytes, and the packet's id.
 struct Data {

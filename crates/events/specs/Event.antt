@@ -2,30 +2,49 @@
 -- Assumes nothing: these are definitions.
 use Prim.Native.Nat.{ℕ}
 use Prim.Native.String.{String}
-use mathlib.Core.Bool.{Bool, true, false, cond}
+use mathlib.Core.Bool.{Bool, true, false, cond, _&&_}
 use mathlib.Core.List.{List}
 use mathlib.Core.Option.{Option, none, some}
 use mathlib.Core.Path.{_≡_}
 use lib.ListN.{getD}
-use lib.Dec.{eqb}
+use lib.Dec.{eqb, leb}
 use Rattle.number.specs.Little.{le}
+use Rattle.endpoint.specs.declared.Endpoint.{Endpoint}
 use Rattle.endpoint.specs.Endpoint.{isIn}
 use Rattle.header.specs.declared.Side.{Side}
 use Rattle.kinds.specs.Table.{Field}
 use Rattle.kinds.specs.Content.{Value, Content, named}
 use Rattle.kinds.specs.Codec.{layout}
-use Rattle.kinds.specs.Number.{dataLength}
+use Rattle.kinds.specs.Number.{isGuest, dataLength}
 use Rattle.packet.specs.declared.Packet.{Packet}
 use Rattle.packet.specs.Packet.{contentOf}
-use Rattle.rows.specs.Rows.{column}
-use Rattle.device.specs.declared.RowState.{RowState}
+use Rattle.packet.specs.Rows.{column}
 use Rattle.device.specs.declared.Rows.{Rows}
 use Rattle.device.specs.Device.{startRows}
-use Rattle.scan.specs.Scan.{eachAt}
+use Rattle.scan.specs.Scan.{tabulated}
+use Rattle.requests.specs.declared.Request.{Request}
+use Rattle.requests.specs.declared.Answers.{Answers}
 use Rattle.events.specs.declared.Typed.{Typed}
 use Rattle.events.specs.declared.Typed.the-variants.{Untyped, OfEndpoint, OfMask}
-use Rattle.events.specs.declared.Event.{Event}
-use Rattle.events.specs.Meaning.{About, nothing, endpoint, interface, mask, Meaning, meanings, lookUp}
+use Rattle.events.specs.declared.Reply.{Reply}
+use Rattle.events.specs.declared.Case.{Case}
+use Rattle.events.specs.declared.Case.the-variants as cases
+use Rattle.events.specs.Meaning.{Class, Hello, Connect, Interfaces, Endpoints, Disconnect, Reset, Ack, Cancel, Filter, StartRequest, PlainRequest, StreamStatus, PlainReply, StreamData, About, nothing, endpoint, interface, mask, Meaning, meanings, lookUp}
+
+-- a packet as the session sees it
+pub record Event : Type 0 where
+  pub sender : Side
+  pub class : Class
+  -- the request that it makes or answers, as it tells it
+  pub request : Request
+  -- the requests that it can be a reply to
+  pub answers : Answers
+  pub typed : Typed
+  pub status : ℕ
+  -- a hello's first capability word
+  pub word : ℕ
+  -- the rows that an endpoint table announces
+  pub rows : Rows
 
 -- the number in a packet's field of that name; 0 where the kind lacks it
 abbrev pub field : String → Content → ℕ
@@ -61,14 +80,16 @@ abbrev pub wordOf : Content → ℕ
 wordOf p = cond (eqb (p .kind) 0) (le 4 (p .rest) 0) 0
 
 -- the rows that an endpoint table announces: type and interface of each
-abbrev pub announcedRow : List ℕ → List ℕ → ℕ → RowState → RowState
-announcedRow types interfaces i r = record { ty = getD types i 0; interface = getD interfaces i 0; streaming = false }
-
 abbrev pub announcedIn : List Field → List Value → Rows
-announcedIn fs vs = record { rows = eachAt (announcedRow (column "type" fs vs) (column "interface" fs vs)) 0 (startRows .rows) }
+announcedIn fs vs =
+    record {
+      types = tabulated (λ (i : ℕ). getD (column "type" fs vs) i 0) 0 32;
+      interfaces = tabulated (λ (i : ℕ). getD (column "interface" fs vs) i 0) 0 32;
+      streams = startRows .streams;
+    }
 
-abbrev pub rowsOf : Content → Rows
-rowsOf p = cond (eqb (p .kind) 5) (announcedIn (layout (p .kind)) (p .fields)) startRows
+abbrev pub rowsTold : Content → Rows
+rowsTold p = cond (eqb (p .kind) 5) (announcedIn (layout (p .kind)) (p .fields)) startRows
 
 abbrev pub eventBy : Meaning → Side → Content → Event
 eventBy m from p =
@@ -80,12 +101,54 @@ eventBy m from p =
       typed = typedOf (m .wants) (m .about) p;
       status = field "status" p;
       word = wordOf p;
-      rows = rowsOf p;
+      rows = rowsTold p;
     }
 
 unfoldable pub eventOf : Side → Content → Event
 eventOf from p = eventBy (meaningOf from p) from p
 
--- an event is what a packet of the code says, whatever the shared set
-abbrev pub Means : Side → ℕ → Packet → List ℕ → Event → Type 0
-Means from id p body e = (caps : ℕ) → e ≡ eventOf from (contentOf caps id p body)
+-- 29: "guest kinds 100 to 103"
+abbrev pub isTransfer : Event → Bool
+isTransfer e = isGuest (e .sender) && leb 100 (e .request .kind) && leb (e .request .kind) 103
+
+-- ---- what the code makes of a packet
+
+-- of an event, what its class needs
+abbrev pub replyOf : Event → Reply
+replyOf e = record { told = e .request; answers = e .answers; status = e .status }
+
+abbrev pub endpointIn : Typed → Endpoint
+endpointIn Untyped = record { 0 = 0 }
+endpointIn (OfEndpoint x ty) = x
+endpointIn (OfMask m ty) = record { 0 = 0 }
+
+abbrev pub typeIn : Typed → ℕ
+typeIn Untyped = 0
+typeIn (OfEndpoint x ty) = ty
+typeIn (OfMask m ty) = ty
+
+abbrev pub caseBy : Class → Event → Case
+caseBy Hello e = cases.Hello (e .word)
+caseBy Connect e = cases.Connect
+caseBy Interfaces e = cases.Interfaces
+caseBy Endpoints e = cases.Endpoints
+caseBy Disconnect e = cases.Disconnect
+caseBy Reset e = cases.Reset
+caseBy Ack e = cases.Ack
+caseBy Cancel e = cases.Cancel
+caseBy Filter e = cases.Filter
+caseBy StartRequest e = cases.Asks (e .request) (e .typed) true (isTransfer e)
+caseBy PlainRequest e = cases.Asks (e .request) (e .typed) false (isTransfer e)
+caseBy StreamStatus e = cases.Answers (replyOf e) (e .typed) true
+caseBy PlainReply e = cases.Answers (replyOf e) (e .typed) false
+caseBy StreamData e = cases.Streams (endpointIn (e .typed)) (typeIn (e .typed)) (isTransfer e)
+
+abbrev pub caseOf : Event → Case
+caseOf e = caseBy (e .class) e
+
+-- of a packet of the code, whatever the shared set
+abbrev pub Shows : Side → ℕ → Packet → List ℕ → Case → Type 0
+Shows from id p body c = (caps : ℕ) → c ≡ caseOf (eventOf from (contentOf caps id p body))
+
+abbrev pub Announces : Packet → List ℕ → Rows → Type 0
+Announces p body r = (from : Side) (caps id : ℕ) → r ≡ eventOf from (contentOf caps id p body) .rows

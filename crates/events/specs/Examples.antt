@@ -13,13 +13,11 @@ use Rattle.header.specs.declared.Side.the-variants.{Guest, Host}
 use Rattle.kinds.specs.Table.{words, Kind, kinds}
 use Rattle.kinds.specs.Content.{Content}
 use Rattle.kinds.specs.Number.{sends, tailOk, isNone}
-use Rattle.rows.specs.declared.Optional32.{Optional32}
-use Rattle.rows.specs.declared.Optional32.the-variants.{Absent, Present}
-use Rattle.rows.specs.Rows.{wordOf as rowsWord}
+use Rattle.packet.specs.declared.Optional32.{Optional32}
+use Rattle.packet.specs.declared.Optional32.the-variants.{Absent, Present}
+use Rattle.packet.specs.Rows.{wordOf as rowsWord}
 use Rattle.device.specs.Device.{control, iso, bulk, interrupt, invalid}
-use Rattle.events.specs.declared.Class.{Class}
-use Rattle.events.specs.declared.Class.the-variants.{Hello, Connect, Interfaces, Endpoints, Disconnect, Reset, Ack, Cancel, Filter, StartRequest, PlainRequest, StreamStatus, PlainReply, StreamData}
-use Rattle.events.specs.Meaning.{Who, sender, guest, host-in, Line, meanings, admits, lookUp}
+use Rattle.events.specs.Meaning.{Class, Hello, Connect, Interfaces, Endpoints, Disconnect, Reset, Ack, Cancel, Filter, StartRequest, PlainRequest, StreamStatus, PlainReply, StreamData, Who, sender, guest, host-in, Line, meanings, admits, lookUp}
 use Rattle.events.specs.Event.{eventOf}
 
 -- ---- lines by their class
@@ -42,7 +40,7 @@ tag PlainReply = 12
 tag StreamData = 13
 
 -- a class is one of these
-abbrev among : List Class → Class → Bool
+abbrev pub among : List Class → Class → Bool
 among [] c = false
 among (d ∷ ds) c = eqb (tag c) (tag d) || among ds c
 

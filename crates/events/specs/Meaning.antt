@@ -8,8 +8,11 @@ use lib.Dec.{eqb}
 use Rattle.header.specs.declared.Side.{Side}
 use Rattle.kinds.specs.Number.{isGuest}
 use Rattle.device.specs.Device.{control, iso, bulk, interrupt}
-use Rattle.events.specs.declared.Class.{Class}
-use Rattle.events.specs.declared.Class.the-variants.{Hello, Connect, Interfaces, Endpoints, Disconnect, Reset, Ack, Cancel, Filter, StartRequest, PlainRequest, StreamStatus, PlainReply, StreamData}
+
+-- what a packet is to the session; two classes of requests and two of replies differ in what they do to a stream: a start opens one, and a
+-- stream's status answers a start or a stop, or comes unasked
+pub data Class : Type 0 where
+  Hello Connect Interfaces Endpoints Disconnect Reset Ack Cancel Filter StartRequest PlainRequest StreamStatus PlainReply StreamData : Class
 
 -- what a packet is about, by the field that names it
 pub data About : Type 0 where

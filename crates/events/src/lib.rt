@@ -1,13 +1,12 @@
-// What a packet means to the session: its class, and of its fields those that the session rules look at.
+// What a packet means to the session: its case, with what the session rules ask of a packet of its class and no more.
 ghost use mathlib.Core.Path.{_≡_};
+ghost use mathlib.Core.Bool.{false};
 ghost use Rattle.kinds.specs.Codec.{layout};
 ghost use Rattle.kinds.specs.Content.{split};
-ghost use Rattle.number.specs.Little.{le};
 ghost use Rattle.packet.specs.Packet.{inPart, columnsOf};
-ghost use Rattle.events.specs.Event.{Means, announcedIn};
-ghost use Rattle.events.specs.Build.{answering, built, requestWith, plainEvent, interfaceEvent, endpointEvent, maskEvent, replyEvent, statusEvent, withWord, withRows, transferEvent, interruptEvent};
-ghost use Rattle.events.specs.declared.Class.the-variants.{Hello, Endpoints};
-use device::RowState;
+ghost use Rattle.events.specs.Event.{announcedIn, Shows, Announces};
+ghost use Rattle.events.specs.Build.{asks, answersTo, reports, transfers};
+ghost use Rattle.events.specs.declared.Typed.the-variants.{Untyped, OfEndpoint, OfMask};
 use device::Rows;
 use device::start_rows;
 use endpoint::Endpoint;
@@ -18,30 +17,10 @@ use kinds::is_guest;
 use number::get32;
 use packet::Packet;
 use packet::Part;
+use packet::endpoint_row;
 use packet::part_of;
 use requests::Answers;
 use requests::Request;
-use rows::endpoint_row;
-
-// What a packet is to the session. Two classes of requests and two of replies differ in what they do to a stream.
-pub enum Class {
-    Hello,
-    Connect,
-    Interfaces,
-    Endpoints,
-    Disconnect,
-    Reset,
-    Ack,
-    Cancel,
-    Filter,
-    // a request that opens a stream
-    StartRequest,
-    PlainRequest,
-    // the reply to a start or a stop of a stream, or an unsolicited status
-    StreamStatus,
-    PlainReply,
-    StreamData,
-}
 
 // The rows that a packet is about, and the type that its kind wants them to have.
 pub enum Typed {
@@ -50,277 +29,167 @@ pub enum Typed {
     OfMask(u32, u8),
 }
 
-pub struct Event {
-    pub sender: Side,
-    pub class: Class,
-    // the request that it makes or answers, as it tells it
-    pub request: Request,
-    // the requests that it can be a reply to
+// A reply: the request that it answers, as it tells it; which requests it can answer; its status.
+pub struct Reply {
+    pub told: Request,
     pub answers: Answers,
-    pub typed: Typed,
     pub status: u8,
-    // a hello's first capability word
-    pub word: u32,
-    // the rows that an endpoint table announces
-    pub rows: Rows,
 }
 
-fn answers_to(first: u8, second: u8, targeted: bool) -> Answers
-    ensures { λ r. ⌜ r ≡ answering first second targeted ⌝ }
-{
-    Answers {
-        first,
-        second,
-        targeted,
-    }
+// What a packet is to the session.
+pub enum Case {
+    // with its first capability word
+    Hello(u32),
+    Connect,
+    Interfaces,
+    Endpoints,
+    Disconnect,
+    Reset,
+    Ack,
+    Cancel,
+    Filter,
+    // a request: whether it opens a stream, and whether it is a transfer
+    Asks(Request, Typed, bool, bool),
+    // a reply: whether it may come unasked
+    Answers(Reply, Typed, bool),
+    // data on a stream of this type: whether it is a transfer
+    Streams(Endpoint, u8, bool),
 }
 
-fn request_of(kind: u8, id: u64, target: u8, length: u32) -> Request
-    ensures { λ r. ⌜ r ≡ requestWith kind id target length ⌝ }
+// A request about nothing, or about an interface.
+fn asks_plainly(kind: u8, id: u64, target: u8) -> Case
+    ensures { λ r. ⌜ r ≡ asks kind id target 0 Untyped false false ⌝ }
 {
-    Request {
+    let request = Request {
         id,
         kind,
         target,
-        length,
-    }
+        length: 0,
+    };
+    Case::Asks(request, Typed::Untyped, false, false)
 }
 
-fn build(
-    from: Side,
-    class: Class,
-    request: Request,
-    answers: Answers,
-    typed: Typed,
-    status: u8,
-) -> Event
-    ensures { λ r. ⌜ r ≡ built from class request answers typed status ⌝ }
+// A start or a stop of a stream of this type.
+fn asks_stream(kind: u8, id: u64, e: Endpoint, ty: u8, starts: bool) -> Case
+    ensures { λ r. ⌜ r ≡ asks kind id (e .0) 0 (OfEndpoint e ty) starts false ⌝ }
 {
-    Event {
-        sender: from,
-        class,
-        request,
-        answers,
-        typed,
-        status,
-        word: 0,
-        rows: start_rows(),
-    }
+    let request = Request {
+        id,
+        kind,
+        target: e.0,
+        length: 0,
+    };
+    Case::Asks(request, Typed::OfEndpoint(e, ty), starts, false)
 }
 
-// A packet without endpoint, interface, length or status.
-fn plain(from: Side, kind: u8, id: u64, class: Class) -> Event
-    ensures { λ r. ⌜ r ≡ plainEvent from kind id class ⌝ }
+// A request about a mask of rows of type bulk.
+fn asks_mask(kind: u8, id: u64, mask: u32) -> Case
+    ensures { λ r. ⌜ r ≡ asks kind id 0 0 (OfMask mask 2) false false ⌝ }
 {
-    let request = request_of(kind, id, 0, 0);
-    build(
-        from,
-        class,
-        request,
-        answers_to(0, 0, false),
-        Typed::Untyped,
-        0,
-    )
+    let request = Request {
+        id,
+        kind,
+        target: 0,
+        length: 0,
+    };
+    Case::Asks(request, Typed::OfMask(mask, 2), false, false)
 }
 
-// A request about an interface.
-fn about_interface(from: Side, kind: u8, id: u64, interface: u8) -> Event
-    ensures { λ r. ⌜ r ≡ interfaceEvent from kind id interface ⌝ }
-{
-    let request = request_of(kind, id, interface, 0);
-    build(
-        from,
-        Class::PlainRequest,
-        request,
-        answers_to(0, 0, true),
-        Typed::Untyped,
-        0,
-    )
-}
-
-// A request or stream data on an endpoint of this type.
-fn on_endpoint(
-    from: Side,
-    kind: u8,
-    id: u64,
-    class: Class,
-    endpoint: Endpoint,
-    wants: u8,
-    length: u32,
-    status: u8,
-) -> Event
-    ensures { λ r. ⌜ r ≡ endpointEvent from kind id class endpoint wants length status ⌝ }
-{
-    let request = request_of(kind, id, endpoint.0, length);
-    build(
-        from,
-        class,
-        request,
-        answers_to(0, 0, true),
-        Typed::OfEndpoint(endpoint, wants),
-        status,
-    )
-}
-
-// A request about a mask of rows of this type.
-fn about_mask(from: Side, kind: u8, id: u64, mask: u32, wants: u8) -> Event
-    ensures { λ r. ⌜ r ≡ maskEvent from kind id mask wants ⌝ }
-{
-    let request = request_of(kind, id, 0, 0);
-    build(
-        from,
-        Class::PlainRequest,
-        request,
-        answers_to(0, 0, false),
-        Typed::OfMask(mask, wants),
-        0,
-    )
-}
-
-fn reply(
-    from: Side,
+// A reply to requests of two kinds, about nothing or an interface.
+fn answers_plainly(
     kind: u8,
     id: u64,
     target: u8,
-    length: u32,
     status: u8,
-    answers: Answers,
-) -> Event
-    ensures { λ r. ⌜ r ≡ replyEvent from kind id target length status answers ⌝ }
+    first: u8,
+    second: u8,
+    targeted: bool,
+) -> Case
+    ensures { λ r. ⌜ r ≡ answersTo kind id target 0 status first second targeted ⌝ }
 {
-    let request = request_of(kind, id, target, length);
-    build(
-        from,
-        Class::PlainReply,
-        request,
-        answers,
+    let told = Request {
+        id,
+        kind,
+        target,
+        length: 0,
+    };
+    let answers = Answers {
+        first,
+        second,
+        targeted,
+    };
+    Case::Answers(
+        Reply {
+            told,
+            answers,
+            status,
+        },
         Typed::Untyped,
-        status,
+        false,
     )
 }
 
 // A status of a stream of this type, to a start or a stop.
-fn stream_status(
-    from: Side,
-    kind: u8,
-    id: u64,
-    endpoint: Endpoint,
-    wants: u8,
-    status: u8,
-    start: u8,
-    stop: u8,
-) -> Event
-    ensures { λ r. ⌜ r ≡ statusEvent from kind id endpoint wants status start stop ⌝ }
+fn reports_stream(kind: u8, id: u64, e: Endpoint, ty: u8, status: u8, start: u8, stop: u8) -> Case
+    ensures { λ r. ⌜ r ≡ reports kind id e ty status start stop ⌝ }
 {
-    let request = request_of(kind, id, endpoint.0, 0);
-    build(
-        from,
-        Class::StreamStatus,
-        request,
-        answers_to(start, stop, true),
-        Typed::OfEndpoint(endpoint, wants),
-        status,
+    let told = Request {
+        id,
+        kind,
+        target: e.0,
+        length: 0,
+    };
+    let answers = Answers {
+        first: start,
+        second: stop,
+        targeted: true,
+    };
+    Case::Answers(
+        Reply {
+            told,
+            answers,
+            status,
+        },
+        Typed::OfEndpoint(e, ty),
+        true,
     )
-}
-
-// A hello with its first capability word.
-fn hello(from: Side, id: u64, rest: Part, body: &[u8]) -> Event
-    ensures { λ r. ⌜ r ≡ withWord (le 4 (inPart rest (now (body .entry))) 64) (plainEvent from 0 id Hello) ⌝ }
-{
-    let word = get32(part_of(body, rest), 64);
-    let e = plain(from, 0, id, Class::Hello);
-    let mut out = e;
-    out.word = word;
-    out
-}
-
-// The rows that an endpoint table announces: type and interface of each.
-fn announced(body: &[u8], part: Part, packets: bool, streams: bool) -> Rows
-    ensures { λ r. ⌜ r ≡ announcedIn (layout 5) (split (columnsOf packets streams) (layout 5) (inPart part (now (body .entry)))) ⌝ }
-{
-    let mut out = start_rows();
-    let mut i: usize = 0;
-    while i < 32 {
-        let r = endpoint_row(body, part, packets, streams, Row(i as u8));
-        out.rows[i] = RowState {
-            ty: r.ty,
-            interface: r.interface,
-            streaming: false,
-        };
-        i += 1;
-    }
-    out
-}
-
-fn endpoints(from: Side, id: u64, rows: Rows) -> Event
-    ensures { λ r. ⌜ r ≡ withRows rows (plainEvent from 5 id Endpoints) ⌝ }
-{
-    let e = plain(from, 5, id, Class::Endpoints);
-    let mut out = e;
-    out.rows = rows;
-    out
 }
 
 // Data that the guest sends is a request on an endpoint of this type; from the host it is the reply to one.
-fn transfer(
-    from: Side,
-    kind: u8,
-    id: u64,
-    endpoint: Endpoint,
-    wants: u8,
-    length: u32,
-    status: u8,
-) -> Event
-    ensures { λ r. ⌜ r ≡ transferEvent from kind id endpoint wants length status ⌝ }
+fn transfer(from: Side, kind: u8, id: u64, e: Endpoint, ty: u8, length: u32, status: u8) -> Case
+    ensures { λ r. ⌜ r ≡ transfers from kind id e ty length status ⌝ }
 {
-    if is_guest(from) {
-        return on_endpoint(
-            from,
-            kind,
-            id,
-            Class::PlainRequest,
-            endpoint,
-            wants,
-            length,
-            status,
-        );
-    }
-    reply(
-        from,
-        kind,
+    let told = Request {
         id,
-        endpoint.0,
+        kind,
+        target: e.0,
         length,
-        status,
-        answers_to(kind, kind, true),
+    };
+    if is_guest(from) {
+        return Case::Asks(told, Typed::OfEndpoint(e, ty), false, true);
+    }
+    let answers = Answers {
+        first: kind,
+        second: kind,
+        targeted: true,
+    };
+    Case::Answers(
+        Reply {
+            told,
+            answers,
+            status,
+        },
+        Typed::Untyped,
+        false,
     )
 }
 
-// Interrupt data that the host sends on an IN endpoint belongs to a stream; all else is as for other data.
-fn interrupt(from: Side, id: u64, endpoint: Endpoint, length: u32, status: u8) -> Event
-    ensures { λ r. ⌜ r ≡ interruptEvent from id endpoint length status ⌝ }
-{
-    if !is_guest(from) & is_in(endpoint) {
-        return on_endpoint(
-            from,
-            103,
-            id,
-            Class::StreamData,
-            endpoint,
-            3,
-            length,
-            status,
-        );
-    }
-    transfer(from, 103, id, endpoint, 3, length, status)
-}
-
-// What a packet with its body means to the session, whatever the shared set.
-pub fn event_of(from: Side, id: u64, p: Packet, body: &[u8]) -> Event
-    ensures { λ r. ⌜ Means from id p (now (body .entry)) r ⌝ }
+// What a packet with its body is to the session, whatever the shared set.
+pub fn case_of(from: Side, id: u64, p: Packet, body: &[u8]) -> Case
+    ensures { λ r. ⌜ Shows from id p (now (body .entry)) r ⌝ }
 {
     match p {
-        Packet::Hello { rest } => hello(from, id, rest, body),
+        Packet::Hello { rest } => Case::Hello(get32(part_of(body, rest), 64)),
         Packet::Connect {
             speed: _,
             class: _,
@@ -329,45 +198,35 @@ pub fn event_of(from: Side, id: u64, p: Packet, body: &[u8]) -> Event
             vendor: _,
             product: _,
             version: _,
-        } => plain(from, 1, id, Class::Connect),
-        Packet::Disconnect => plain(from, 2, id, Class::Disconnect),
-        Packet::Reset => plain(from, 3, id, Class::Reset),
-        Packet::InterfaceTable { count: _, rows: _ } => plain(from, 4, id, Class::Interfaces),
+        } => Case::Connect,
+        Packet::Disconnect => Case::Disconnect,
+        Packet::Reset => Case::Reset,
+        Packet::InterfaceTable { count: _, rows: _ } => Case::Interfaces,
         Packet::EndpointTable {
-            rows,
-            max_packet,
-            max_streams,
-        } => endpoints(from, id, announced(body, rows, max_packet, max_streams)),
-        Packet::SetConfiguration { configuration: _ } => plain(from, 6, id, Class::PlainRequest),
-        Packet::GetConfiguration => plain(from, 7, id, Class::PlainRequest),
+            rows: _,
+            max_packet: _,
+            max_streams: _,
+        } => Case::Endpoints,
+        Packet::SetConfiguration { configuration: _ } => asks_plainly(6, id, 0),
+        Packet::GetConfiguration => asks_plainly(7, id, 0),
         Packet::ConfigurationStatus {
             status,
             configuration: _,
-        } => reply(from, 8, id, 0, 0, status, answers_to(6, 7, false)),
-        Packet::SetAlt { interface, alt: _ } => about_interface(from, 9, id, interface),
-        Packet::GetAlt { interface } => about_interface(from, 10, id, interface),
+        } => answers_plainly(8, id, 0, status, 6, 7, false),
+        Packet::SetAlt { interface, alt: _ } => asks_plainly(9, id, interface),
+        Packet::GetAlt { interface } => asks_plainly(10, id, interface),
         Packet::AltStatus {
             status,
             interface,
             alt: _,
-        } => reply(from, 11, id, interface, 0, status, answers_to(9, 10, true)),
+        } => answers_plainly(11, id, interface, status, 9, 10, true),
         Packet::StartIso {
             endpoint,
             packets: _,
             urbs: _,
-        } => on_endpoint(from, 12, id, Class::StartRequest, endpoint, 1, 0, 0),
-        Packet::StopIso { endpoint } => on_endpoint(
-            from,
-            13,
-            id,
-            Class::PlainRequest,
-            endpoint,
-            1,
-            0,
-            0,
-        ),
-        Packet::IsoStatus { status, endpoint } => stream_status(
-            from,
+        } => asks_stream(12, id, endpoint, 1, true),
+        Packet::StopIso { endpoint } => asks_stream(13, id, endpoint, 1, false),
+        Packet::IsoStatus { status, endpoint } => reports_stream(
             14,
             id,
             endpoint,
@@ -376,28 +235,9 @@ pub fn event_of(from: Side, id: u64, p: Packet, body: &[u8]) -> Event
             12,
             13,
         ),
-        Packet::StartInterrupt { endpoint } => on_endpoint(
-            from,
-            15,
-            id,
-            Class::StartRequest,
-            endpoint,
-            3,
-            0,
-            0,
-        ),
-        Packet::StopInterrupt { endpoint } => on_endpoint(
-            from,
-            16,
-            id,
-            Class::PlainRequest,
-            endpoint,
-            3,
-            0,
-            0,
-        ),
-        Packet::InterruptStatus { status, endpoint } => stream_status(
-            from,
+        Packet::StartInterrupt { endpoint } => asks_stream(15, id, endpoint, 3, true),
+        Packet::StopInterrupt { endpoint } => asks_stream(16, id, endpoint, 3, false),
+        Packet::InterruptStatus { status, endpoint } => reports_stream(
             17,
             id,
             endpoint,
@@ -406,32 +246,32 @@ pub fn event_of(from: Side, id: u64, p: Packet, body: &[u8]) -> Event
             15,
             16,
         ),
-        Packet::AllocStreams { mask, count: _ } => about_mask(from, 18, id, mask, 2),
-        Packet::FreeStreams { mask } => about_mask(from, 19, id, mask, 2),
+        Packet::AllocStreams { mask, count: _ } => asks_mask(18, id, mask),
+        Packet::FreeStreams { mask } => asks_mask(19, id, mask),
         Packet::StreamsStatus {
             mask: _,
             count: _,
             status,
-        } => reply(from, 20, id, 0, 0, status, answers_to(18, 19, false)),
-        Packet::Cancel => plain(from, 21, id, Class::Cancel),
-        Packet::FilterReject => plain(from, 22, id, Class::Filter),
-        Packet::Filter { string: _ } => plain(from, 23, id, Class::Filter),
-        Packet::DisconnectAck => plain(from, 24, id, Class::Ack),
+        } => answers_plainly(20, id, 0, status, 18, 19, false),
+        Packet::Cancel => Case::Cancel,
+        Packet::FilterReject => Case::Filter,
+        Packet::Filter { string: _ } => Case::Filter,
+        Packet::DisconnectAck => Case::Ack,
         Packet::StartBulkReceiving {
             stream: _,
             bytes: _,
             endpoint,
             transfers: _,
-        } => on_endpoint(from, 25, id, Class::StartRequest, endpoint, 2, 0, 0),
+        } => asks_stream(25, id, endpoint, 2, true),
         Packet::StopBulkReceiving {
             stream: _,
             endpoint,
-        } => on_endpoint(from, 26, id, Class::PlainRequest, endpoint, 2, 0, 0),
+        } => asks_stream(26, id, endpoint, 2, false),
         Packet::BulkReceivingStatus {
             stream: _,
             endpoint,
             status,
-        } => stream_status(from, 27, id, endpoint, 2, status, 25, 26),
+        } => reports_stream(27, id, endpoint, 2, status, 25, 26),
         Packet::Control {
             endpoint,
             request: _,
@@ -451,40 +291,56 @@ pub fn event_of(from: Side, id: u64, p: Packet, body: &[u8]) -> Event
         } => transfer(from, 101, id, endpoint, 2, length, status),
         Packet::Iso {
             endpoint,
-            status,
-            length,
+            status: _,
+            length: _,
             data: _,
-        } => on_endpoint(
-            from,
-            102,
-            id,
-            Class::StreamData,
-            endpoint,
-            1,
-            length as u32,
-            status,
-        ),
+        } => Case::Streams(endpoint, 1, is_guest(from)),
         Packet::Interrupt {
             endpoint,
             status,
             length,
             data: _,
-        } => interrupt(from, id, endpoint, length as u32, status),
+        } => {
+            if !is_guest(from) & is_in(endpoint) {
+                return Case::Streams(endpoint, 3, false);
+            }
+            transfer(from, 103, id, endpoint, 3, length as u32, status)
+        }
         Packet::BufferedBulk {
             stream: _,
-            length,
+            length: _,
             endpoint,
-            status,
+            status: _,
             data: _,
-        } => on_endpoint(
-            from,
-            104,
-            id,
-            Class::StreamData,
-            endpoint,
-            2,
-            length,
-            status,
-        ),
+        } => Case::Streams(endpoint, 2, false),
+    }
+}
+
+// The rows that an endpoint table has: type and interface of each.
+fn rows_in(body: &[u8], part: Part, packets: bool, streams: bool) -> Rows
+    ensures { λ r. ⌜ r ≡ announcedIn (layout 5) (split (columnsOf packets streams) (layout 5) (inPart part (now (body .entry)))) ⌝ }
+{
+    let mut out = start_rows();
+    let mut i: usize = 0;
+    while i < 32 {
+        let r = endpoint_row(body, part, packets, streams, Row(i as u8));
+        out.types[i] = r.ty;
+        out.interfaces[i] = r.interface;
+        i += 1;
+    }
+    out
+}
+
+// The rows that a packet announces: an endpoint table its own, any other those of the start.
+pub fn announced(p: Packet, body: &[u8]) -> Rows
+    ensures { λ r. ⌜ Announces p (now (body .entry)) r ⌝ }
+{
+    match p {
+        Packet::EndpointTable {
+            rows,
+            max_packet,
+            max_streams,
+        } => rows_in(body, rows, max_packet, max_streams),
+        _ => start_rows(),
     }
 }

@@ -1,6 +1,8 @@
 // Runs the writer, and what the reader lends, on the marked examples and at the numbers that a report never shows. A writer call is a line, its
 // number and the bytes that it put out; a reader call is two, its number with the data and with the body that it lends. All are in hex digits.
 // What it prints is compared with the file stdout.
+use device::Head;
+use device::Held;
 use endpoint::Endpoint;
 use gate::Answer;
 use gate::body_of;
@@ -13,10 +15,8 @@ use number::part;
 use number::put;
 use packet::Packet;
 use packet::Part;
-use session::Held;
 use session::Session;
 use session::fresh_session;
-use verdict::stop;
 
 fn add_byte(text: &mut [u8; 2048], at: usize, b: u8) -> usize {
     put(text, at, 1, b as u64);
@@ -212,10 +212,26 @@ fn exchange(
     read(text, e, Side::Host, host, &m4())
 }
 
+fn with_head(s: Session, head: Head) -> Session {
+    let rows = s.rows;
+    let requests = s.requests;
+    Session {
+        head,
+        rows,
+        requests,
+    }
+}
+
 fn with_held(s: Session, held: Held) -> Session {
-    let mut next = s;
-    next.held = held;
-    next
+    let mut head = s.head;
+    head.held = held;
+    with_head(s, head)
+}
+
+fn stop(s: Session) -> Session {
+    let mut head = s.head;
+    head.stopped = true;
+    with_head(s, head)
 }
 
 // Numbers that a report never shows: 41, 43 and 3 of the reader.

@@ -1,5 +1,5 @@
 -- What bytes are, case by case, in the values that the code has: the header's size, its number, and the length that it says (`cut-short`,
--- `cut-refused`, `cut-part`, `cut-full`); how they are read across two slices (`beyond`, `spelt`), and what is completed in the buffer
+-- `cut-refused`, `cut-part`, `cut-full`); how they are read across two slices (`le-beyond`, `beyond`), and what is completed in the buffer
 -- (`completed-begun`).
 -- The code compares the piece with what the held bytes lack, the definition all bytes with what they should be: one is the other by arithmetic on
 -- lengths, and `cutOf` then computes from its three tests.
@@ -7,18 +7,19 @@
 use mathlib.Core.Path.{_≡_, sym, ap, ap₂, _∙_}
 use mathlib.Core.Bool.{true, false}
 use mathlib.Core.List.{List, _++_}
-use Prim.Native.Nat.{ℕ, suc, _+_, _-_, _*_, _≤_, _<_}
+use Prim.Native.Nat.{ℕ, _+_, _-_, _≤_, _<_}
 use native.Mathlib.Omega.{arith}
 use lib.ListN.{length, getD, take, length-append}
 use lib.Seq.{sets, getD-append-add}
 use lib.Dec.{eqb}
 use borrow.Author.Tests.{lt-ltb, le-ltb, ne-eqb}
 use Rattle.number.specs.Little.{le}
+use Rattle.number.specs.Laws.{le-shift}
 use Rattle.header.specs.declared.Link.{Link}
 use Rattle.header.specs.Link.{idWidth}
 use Rattle.header.specs.Laws.{id-widths}
 use Rattle.header.specs.Header.{kindOf, lengthOf, headerSize, headerNumber}
-use Rattle.roundtrip.specs.Cut.{cutOf}
+use Rattle.frame.specs.Cut.{cutOf}
 use Rattle.frame.specs.declared.Cut.the-variants.{More, Refused, Whole}
 use Rattle.frame.specs.Frame.{headSize, headNumber, cutFor, completed}
 
@@ -61,12 +62,18 @@ module _ (l : Link) (a b : List ℕ) (kind len w : ℕ) (ek : kind ≡ kindOf (a
           let k : length (a ++ b) < headSize l (a ++ b) + lengthOf (a ++ b) = omega (arith, whole-is, length-append a b) in
           rw (t, zero-is, lt-ltb (length (a ++ b)) (headSize l (a ++ b) + lengthOf (a ++ b)) k)
 
-      pub cut-full : 8 + w + len - length a ≤ length b → Whole (8 + w + len) ≡ cutFor l (a ++ b)
+      pub cut-full : 8 + w + len - length a ≤ length b → Whole kind (8 + w) (8 + w + len) ≡ cutFor l (a ++ b)
       unfolding cutFor cutOf
       cut-full g =
           let t = le-ltb (length (a ++ b)) (headSize l (a ++ b)) header in
           let k : headSize l (a ++ b) + lengthOf (a ++ b) ≤ length (a ++ b) = omega (arith, whole-is, length-append a b) in
-          rw (t, zero-is, le-ltb (length (a ++ b)) (headSize l (a ++ b) + lengthOf (a ++ b)) k) (ap Whole (sym whole-is))
+          rw (t, zero-is, le-ltb (length (a ++ b)) (headSize l (a ++ b) + lengthOf (a ++ b)) k) (λ i. Whole (ek i) (sym size-is i) (sym whole-is i))
+
+-- past a, a number of b
+pub le-beyond : (n : ℕ) (a b : List ℕ) (at : ℕ) → length a ≤ at → le n b (at - length a) ≡ le n (a ++ b) at
+le-beyond n a b at h =
+    let e : at ≡ length a + (at - length a) = omega arith in
+    sym (ap (le n (a ++ b)) e ∙ le-shift a b n (at - length a))
 
 -- past a, a byte of b
 pub beyond : (a b : List ℕ) (i : ℕ) → length a ≤ i → getD b (i - length a) 0 ≡ getD (a ++ b) i 0
@@ -83,13 +90,3 @@ pub completed-begun : (hold piece src after : List ℕ) (held size taken : ℕ) 
     → after ≡ completed hold held piece size
 completed-begun hold piece src after held size taken h et es ea =
     rw (ne-eqb held 0 h) (ea ∙ ap (sets hold held) (es ∙ ap (λ (n : ℕ). take n piece) et))
-
--- four bytes spell a number
-pub spelt : {b₀ b₁ b₂ b₃ : ℕ} (s : List ℕ) (at : ℕ) → b₃ ≡ getD s (at + 3) 0 → b₂ ≡ getD s (at + 2) 0 → b₁ ≡ getD s (at + 1) 0 → b₀ ≡ getD s at 0
-    → b₀ + 256 * (b₁ + 256 * (b₂ + 256 * b₃)) ≡ le 4 s at
-spelt s at e₃ e₂ e₁ e₀ =
-    let i₁ : at + 1 ≡ suc at = omega arith in
-    let i₂ : at + 2 ≡ suc (suc at) = omega arith in
-    let i₃ : at + 3 ≡ suc (suc (suc at)) = omega arith in
-    let byte : ℕ → ℕ = λ k. getD s k 0 in
-    rw (e₀, e₁ ∙ ap byte i₁, e₂ ∙ ap byte i₂, e₃ ∙ ap byte i₃) (omega arith)

@@ -5,10 +5,10 @@ use mathlib.Core.Bool.{Bool, true, false, cond}
 use mathlib.Core.List.{List, []}
 use lib.ListN.{take}
 use lib.Seq.{sets}
-use lib.Dec.{eqb}
+use lib.Dec.{eqb, leb}
 use Rattle.header.specs.declared.Link.{Link}
 use Rattle.header.specs.Header.{kindOf, lengthOf, headerSize, headerNumber}
-use Rattle.roundtrip.specs.Cut.{Cut, more, bad, whole, cutOf}
+use Rattle.frame.specs.Cut.{Cut, more, bad, whole, cutOf}
 use Rattle.frame.specs.declared.Cut.{Cut as Found}
 use Rattle.frame.specs.declared.Cut.the-variants.{More, Refused, Whole}
 use Rattle.frame.specs.declared.Place.{Place}
@@ -26,14 +26,20 @@ headNumber l b = headerNumber l (kindOf b) (lengthOf b)
 abbrev pub cutAt : Link → List ℕ → Cut
 cutAt l all = cutOf (headSize l) (headNumber l) lengthOf all
 
--- the code's answer for it: a refused header comes with its size
-abbrev pub found : ℕ → Cut → Found
-found size more = More
-found size (bad n) = Refused n size
-found size (whole n) = Whole n
+-- the code's answer for it: a refused header comes with its size, a whole packet with its kind too
+abbrev pub found : ℕ → ℕ → Cut → Found
+found kind size more = More
+found kind size (bad n) = Refused n size
+found kind size (whole n) = Whole kind size n
 
 unfoldable pub cutFor : Link → List ℕ → Found
-cutFor l all = found (headSize l all) (cutAt l all)
+cutFor l all = found (kindOf all) (headSize l all) (cutAt l all)
+
+-- the packet, or the header that is refused, is whole within the first n bytes
+abbrev pub endsWithin : Found → ℕ → Bool
+endsWithin More n = false
+endsWithin (Refused m size) n = leb size n
+endsWithin (Whole kind size m) n = leb m n
 
 abbrev pub isMore : Cut → Bool
 isMore more = true

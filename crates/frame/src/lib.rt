@@ -4,20 +4,22 @@ ghost use mathlib.Core.List.{_++_};
 ghost use Prim.Native.Nat.{_-_, _<_, _≤_};
 ghost use lib.ListN.{getD};
 ghost use Rattle.number.specs.Little.{le};
-ghost use Rattle.frame.specs.Frame.{cutFor, completed, placeFor, bytesAt};
+ghost use Rattle.frame.specs.Frame.{cutFor, endsWithin, completed, placeFor, bytesAt};
 use header::Link;
 use header::header_number;
 use header::id_width;
+use number::get32;
 use number::lay;
 use number::part;
 use number::saturating_sub;
+use number::wide;
 
 // What bytes are, counted from a packet's first byte: not a whole packet yet; a header that is refused, with its number and its
-// size; or a whole packet of so many bytes.
+// size; or a whole packet, with its kind, the size of its header and its own.
 pub enum Cut {
     More,
     Refused(u8, usize),
-    Whole(usize),
+    Whole(u32, usize, usize),
 }
 
 // Where a packet's bytes lie: at the front of the piece or of the holding buffer.
@@ -38,17 +40,17 @@ fn byte_across(a: &[u8], b: &[u8], i: usize) -> u8
     if j < b.len() { b[j] } else { 0 }
 }
 
-fn wide(x: u8) -> u32
-    ensures { λ r. ⌜ (r ≡ x) × (r < 256) ⌝ }
-{
-    x as u32
-}
-
-// The number that four bytes of a with b behind it spell from `at` on.
+// The number that four bytes of a with b behind it spell from `at` on. All four mostly lie in one of the two.
 fn get32_across(a: &[u8], b: &[u8], at: usize) -> u32
     requires { ⌜ at ≤ 4 ⌝ }
     ensures { λ r. ⌜ r ≡ le 4 (now (a .entry) ++ now (b .entry)) at ⌝ }
 {
+    if a.len() <= at {
+        return get32(b, at - a.len());
+    }
+    if at + 4 <= a.len() {
+        return get32(a, at);
+    }
     let b0 = wide(byte_across(a, b, at));
     let b1 = wide(byte_across(a, b, at + 1));
     let b2 = wide(byte_across(a, b, at + 2));
@@ -74,7 +76,18 @@ pub fn cut_of(l: Link, held: &[u8], piece: &[u8]) -> Cut
     if piece.len() < saturating_sub(size, held.len()) {
         return Cut::More;
     }
-    Cut::Whole(size)
+    Cut::Whole(kind, header, size)
+}
+
+// The packet, or the header that is refused, is whole within the first n bytes.
+pub fn ends_within(c: Cut, n: usize) -> bool
+    ensures { λ r. ⌜ r ≡ endsWithin c n ⌝ }
+{
+    match c {
+        Cut::More => false,
+        Cut::Refused(_, size) => size <= n,
+        Cut::Whole(_, _, size) => size <= n,
+    }
 }
 
 // Where a packet lies of which so many bytes were held.

@@ -1,2 +1,6 @@
-mod Cases
+mod Barred
+mod Deciding
+mod InPlace
+mod Offering
+mod Taken
 mod Writing

@@ -24,8 +24,8 @@ use Rattle.encoder.specs.declared.Written.{Written}
 use Rattle.encoder.specs.Written.{Writes}
 use Rattle.session.specs.declared.Session.{Session}
 use Rattle.session.specs.Session.{linkOf, unfit}
-use Rattle.verdict.specs.declared.Handed.{Handed}
-use Rattle.verdict.specs.declared.Handed.the-variants.{Nothing, Passed}
+use Rattle.gate.specs.declared.Handed.{Handed}
+use Rattle.gate.specs.declared.Handed.the-variants.{Nothing, Passed}
 use Rattle.gate.specs.Offer.{isWaiting, bodyIn, dataIn}
 use Rattle.gate.specs.Write.{shut, writeBy, output, outputSize, WritesBy}
 
@@ -50,7 +50,7 @@ module _ {handed : Handed} (bytes : List ℕ) where
 -- ---- a writer call
 
 -- 2 comes last
-pub shut-last : (from : Side) (s : Session) (hello : Bool) {l : Link} {w t : Bool} → unfit s ≡ false → s .stopped ≡ false → l ≡ linkOf from s → w ≡ isWaiting l → (w && not hello) ≡ t
+pub shut-last : (from : Side) (s : Session) (hello : Bool) {l : Link} {w t : Bool} → unfit s ≡ false → s .head .stopped ≡ false → l ≡ linkOf from s → w ≡ isWaiting l → (w && not hello) ≡ t
     → cond t 2 0 ≡ shut from s hello
 unfolding shut
 shut-last from s hello e z el ew et =

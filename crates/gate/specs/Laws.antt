@@ -12,7 +12,7 @@ use mathlib.Core.List.{List, _++_}
 use lib.ListN.{length, take, length-append}
 use lib.Seq.{sets, length-sets, take-append-add, length-take-le}
 use lib.Dec.{eqb, ltb}
-use borrow.Author.Tests.{eqb-true, ltb-false, lt-ltb, le-ltb, not-false}
+use borrow.Author.Tests.{eqb-true, ltb-false, lt-ltb, le-ltb, le-leb, lt-leb, not-false}
 use Rattle.number.specs.Logic.{or-parts, or-none}
 use Rattle.number.specs.Laws.{take-sets}
 use Rattle.header.specs.declared.Side.{Side}
@@ -20,15 +20,17 @@ use Rattle.header.specs.declared.Side.the-variants.{Guest, Host}
 use Rattle.header.specs.declared.Hello.{Hello}
 use Rattle.header.specs.declared.Link.{Link}
 use Rattle.header.specs.Link.{passed}
+use Rattle.header.specs.Header.{kindOf}
 use Rattle.device.specs.Device.{controlRows}
 use Rattle.requests.specs.Requests.{idsDiffer}
 use Rattle.session.specs.declared.Session.{Session}
 use Rattle.session.specs.Session.{linkOf, heldBad, unfit}
-use Rattle.roundtrip.specs.Cut.{Cut, more, bad, whole}
-use Rattle.roundtrip.specs.Told.{IsWhole, whole-is, IsBad, bad-is, more-short, whole-fits, more-less, more-head}
-use Rattle.wire.specs.Wire.{usbredir, laws}
-use Rattle.frame.specs.Frame.{headSize, cutAt, isMore, completed, placeFor, bytesAt}
-use Rattle.gate.specs.Offer.{heldOf, heldBytes, isWaiting, heldWhole, barred, Whole}
+use Rattle.frame.specs.Cut.{Cut, more, bad, whole}
+use Rattle.wire.specs.Told.{IsWhole, whole-is, IsBad, bad-is, more-short, whole-fits, more-less, more-head, bad-stays, whole-stays}
+use Rattle.wire.specs.Usbredir.{usbredir, laws}
+use Rattle.frame.specs.Frame.{headSize, cutAt, found, cutFor, endsWithin, isMore, completed, placeFor, bytesAt}
+use Rattle.gate.specs.Offer.{heldBytes, isWaiting, heldWhole, barred, Whole}
+use Rattle.gate.specs.Verdict.{heldOf}
 
 -- so many bytes, of a buffer's front and of a piece behind it
 pub front-is : (hold piece : List ℕ) (held n : ℕ) → Whole hold piece held n → take n (take held hold ++ piece) ≡ take held hold ++ take (n - held) piece
@@ -88,6 +90,30 @@ module _ (l : Link) (hold piece : List ℕ) (held : ℕ) (room : 32784 ≤ lengt
           there = omega (arith, i .there, length-append (take held hold) piece, held-length);
         }
 
+-- 43's test of the held bytes, a, goes by what they are with a piece behind them
+pub held-whole : (l : Link) (a piece : List ℕ) → endsWithin (cutFor l (a ++ piece)) (length a) ≡ not (isMore (cutAt l a))
+unfolding cutFor
+held-whole l a piece = go (cutAt l a) refl
+  where
+    all : Cut
+    all = cutAt l (a ++ piece)
+
+    ends : Cut → Bool
+    ends c = endsWithin (found (kindOf (a ++ piece)) (headSize l (a ++ piece)) c) (length a)
+
+    not-yet : cutAt l a ≡ more → (c : Cut) → all ≡ c → ends c ≡ false
+    not-yet e more ec = refl
+    not-yet e (bad n) ec = lt-leb _ _ (more-head usbredir laws l a piece e n ec)
+    not-yet e (whole n) ec = lt-leb _ _ (more-less usbredir laws l a piece e n ec)
+
+    go : (c : Cut) → cutAt l a ≡ c → ends all ≡ not (isMore c)
+    go more e = not-yet e all refl
+    go (bad n) e =
+        let b = bad-is usbredir l a n e in
+        let w : headSize l (a ++ piece) ≡ headSize l a = laws .same-width l a piece (omega (arith, b .there, laws .wide l a)) in
+        rw (bad-stays usbredir laws l a piece n e) (le-leb (headSize l (a ++ piece)) (length a) (omega (arith, w, b .there)))
+    go (whole n) e = rw (whole-stays usbredir laws l a piece n e) (le-leb n (length a) (whole-is usbredir l a n e .there))
+
 -- ---- a call that can go on
 
 -- what 41, 43, 3 and 2 leave to the rest of the call
@@ -95,7 +121,7 @@ pub record Ready (from : Side) (s : Session) (hold : List ℕ) : Type 0 where
   pub room : 32784 ≤ length hold
   pub fit : unfit s ≡ false
   pub begun : cutAt (linkOf from s) (heldBytes from s hold) ≡ more
-  pub running : s .stopped ≡ false
+  pub running : s .head .stopped ≡ false
   pub not-waiting : isWaiting (linkOf from s) ≡ false
 
 -- bytes that are neither a packet nor a refused header
@@ -106,9 +132,9 @@ is-more (whole n) e = absurd (true≢false e)
 
 pub ready : (from : Side) (s : Session) (hold : List ℕ) → barred from s hold ≡ 0 → Ready from s hold
 unfolding barred
-ready from s hold e = go (ltb (length hold) 32784) refl (unfit s || heldWhole from s hold) refl (s .stopped) refl (isWaiting (linkOf from s)) refl
+ready from s hold e = go (ltb (length hold) 32784) refl (unfit s || heldWhole from s hold) refl (s .head .stopped) refl (isWaiting (linkOf from s)) refl
   where
-    go : (a : Bool) → ltb (length hold) 32784 ≡ a → (b : Bool) → (unfit s || heldWhole from s hold) ≡ b → (c : Bool) → s .stopped ≡ c → (d : Bool) → isWaiting (linkOf from s) ≡ d → Ready from s hold
+    go : (a : Bool) → ltb (length hold) 32784 ≡ a → (b : Bool) → (unfit s || heldWhole from s hold) ≡ b → (c : Bool) → s .head .stopped ≡ c → (d : Bool) → isWaiting (linkOf from s) ≡ d → Ready from s hold
     go true ea b eb c ec d ed = let z : _≡_ {A = ℕ} 41 0 = rw ea at e in absurd (omega arith)
     go false ea true eb c ec d ed = let z : _≡_ {A = ℕ} 43 0 = rw (ea, eb) at e in absurd (omega arith)
     go false ea false eb true ec d ed = let z : _≡_ {A = ℕ} 3 0 = rw (ea, eb, ec) at e in absurd (omega arith)
@@ -131,10 +157,10 @@ pub record FitCount (own other : Hello) (n : ℕ) : Type 0 where
 
 -- nor "two live requests with one id; row 0 or 16 not control"
 pub record Fit (s : Session) : Type 0 where
-  pub guest : FitCount (s .guest) (s .host) (s .held .guest)
-  pub host : FitCount (s .host) (s .guest) (s .held .host)
-  pub ids : idsDiffer (s .requests .places) ≡ true
-  pub control : controlRows (s .device .rows) ≡ true
+  pub guest : FitCount (s .head .guest) (s .head .host) (s .head .held .guest)
+  pub host : FitCount (s .head .host) (s .head .guest) (s .head .held .host)
+  pub ids : idsDiffer (s .requests) ≡ true
+  pub control : controlRows (s .rows) ≡ true
 
 count-fits : (own other : Hello) (n : ℕ) → heldBad own other n ≡ false → FitCount own other n
 count-fits own other n e =
@@ -156,12 +182,12 @@ fits-count own other n f = or-none (ltb 32783 n) (passed own && not (passed othe
 pub fit-is : (s : Session) → unfit s ≡ false → Fit s
 unfolding unfit
 fit-is s e =
-    let a = or-parts (heldBad (s .guest) (s .host) (s .held .guest) || heldBad (s .host) (s .guest) (s .held .host) || not (idsDiffer (s .requests .places))) (not (controlRows (s .device .rows))) e in
-    let b = or-parts (heldBad (s .guest) (s .host) (s .held .guest) || heldBad (s .host) (s .guest) (s .held .host)) (not (idsDiffer (s .requests .places))) (a .0) in
-    let c = or-parts (heldBad (s .guest) (s .host) (s .held .guest)) (heldBad (s .host) (s .guest) (s .held .host)) (b .0) in
+    let a = or-parts (heldBad (s .head .guest) (s .head .host) (s .head .held .guest) || heldBad (s .head .host) (s .head .guest) (s .head .held .host) || not (idsDiffer (s .requests))) (not (controlRows (s .rows))) e in
+    let b = or-parts (heldBad (s .head .guest) (s .head .host) (s .head .held .guest) || heldBad (s .head .host) (s .head .guest) (s .head .held .host)) (not (idsDiffer (s .requests))) (a .0) in
+    let c = or-parts (heldBad (s .head .guest) (s .head .host) (s .head .held .guest)) (heldBad (s .head .host) (s .head .guest) (s .head .held .host)) (b .0) in
     record {
-      guest = count-fits (s .guest) (s .host) (s .held .guest) (c .0);
-      host = count-fits (s .host) (s .guest) (s .held .host) (c .1);
+      guest = count-fits (s .head .guest) (s .head .host) (s .head .held .guest) (c .0);
+      host = count-fits (s .head .host) (s .head .guest) (s .head .held .host) (c .1);
       ids = not-false _ (b .1);
       control = not-false _ (a .1);
     }
@@ -169,7 +195,7 @@ fit-is s e =
 pub is-fit : (s : Session) → Fit s → unfit s ≡ false
 unfolding unfit
 is-fit s f =
-    simp (fits-count (s .guest) (s .host) (s .held .guest) (f .guest), fits-count (s .host) (s .guest) (s .held .host) (f .host), f .ids, f .control)
+    simp (fits-count (s .head .guest) (s .head .host) (s .head .held .guest) (f .guest), fits-count (s .head .host) (s .head .guest) (s .head .held .host) (f .host), f .ids, f .control)
 
 pub held-few : (from : Side) (s : Session) → unfit s ≡ false → heldOf from s ≤ 32783
 held-few Guest s e = fit-is s e .guest .few

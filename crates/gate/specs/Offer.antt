@@ -8,36 +8,22 @@ use lib.ListN.{length, take, drop}
 use lib.Seq.{sets}
 use lib.Dec.{eqb, ltb}
 use Rattle.header.specs.declared.Side.{Side}
-use Rattle.header.specs.declared.Side.the-variants.{Guest, Host}
 use Rattle.header.specs.declared.Link.{Link}
 use Rattle.header.specs.Link.{passed, own}
 use Rattle.packet.specs.Packet.{inPart, partNamed}
 use Rattle.decoder.specs.Reading.{PacketTold}
-use Rattle.session.specs.declared.Held.{Held}
 use Rattle.session.specs.declared.Session.{Session}
 use Rattle.session.specs.Session.{linkOf, unfit}
-use Rattle.roundtrip.specs.Cut.{Cut, more, bad, whole}
+use Rattle.frame.specs.Cut.{Cut, more, bad, whole}
 use Rattle.frame.specs.declared.Place.{Place}
 use Rattle.frame.specs.declared.Place.the-variants.{Nowhere}
 use Rattle.frame.specs.Frame.{headSize, cutAt, isMore, completed, placeFor, bytesAt}
-use Rattle.verdict.specs.Verdict.{VerdictTold, stoppedNow, verdictOf, handedAs}
-use Rattle.verdict.specs.declared.Handed.{Handed}
-use Rattle.verdict.specs.declared.Handed.the-variants.{Nothing, Passed}
+use Rattle.gate.specs.declared.Handed.{Handed}
+use Rattle.gate.specs.declared.Handed.the-variants.{Nothing, Passed}
 use Rattle.gate.specs.declared.Offered.{Offered}
+use Rattle.gate.specs.Verdict.{heldOf, heldAs, stoppedNow, VerdictTold, verdictOf, handedAs}
 
 -- ---- the held bytes of a direction: "Bytes of an unfinished packet are kept at its front"
-
-abbrev pub heldOf : Side → Session → ℕ
-heldOf Guest s = s .held .guest
-heldOf Host s = s .held .host
-
-abbrev pub countAs : Side → ℕ → Held → Held
-countAs Guest n h = record { guest = n; host = h .host }
-countAs Host n h = record { guest = h .guest; host = n }
-
--- the session with so many bytes held in a direction
-abbrev pub heldAs : Side → ℕ → Session → Session
-heldAs from n s = record { guest = s .guest; host = s .host; stopped = s .stopped; held = countAs from n (s .held); device = s .device; requests = s .requests }
 
 abbrev pub heldBytes : Side → Session → List ℕ → List ℕ
 heldBytes from s hold = take (heldOf from s) hold
@@ -57,7 +43,7 @@ unfoldable pub barred : Side → Session → List ℕ → ℕ
 barred from s hold =
     cond (ltb (length hold) 32784) 41
     (cond (unfit s || heldWhole from s hold) 43
-    (cond (s .stopped) 3
+    (cond (s .head .stopped) 3
     (cond (isWaiting (linkOf from s)) 2 0)))
 
 -- ---- what a call gives and leaves
@@ -152,10 +138,6 @@ bodyIn (Passed h p) bytes = drop (h .size) bytes
 abbrev pub dataIn : Handed → List ℕ → List ℕ
 dataIn Nothing bytes = []
 dataIn (Passed h p) bytes = inPart (partNamed p) (drop (h .size) bytes)
-
--- an answer without a packet
-abbrev pub withoutPacket : Session → ℕ → ℕ → Offered
-withoutPacket s n taken = record { session = s; answer = record { number = n; taken = taken; place = Nowhere; size = 0; handed = Nothing } }
 
 -- the bytes of a whole packet of n bytes can be held and are there
 pub record Whole (hold piece : List ℕ) (held n : ℕ) : Type 0 where

@@ -18,7 +18,7 @@ use Rattle.gate.specs.Offer.{isWaiting}
 unfoldable pub shut : Side → Session → Bool → ℕ
 shut from s hello =
     cond (unfit s) 43
-    (cond (s .stopped) 3
+    (cond (s .head .stopped) 3
     (cond (isWaiting (linkOf from s) && not hello) 2 0))
 
 -- "then makes the wire checks, 10 to 12 included, then 40, and accepts all else"

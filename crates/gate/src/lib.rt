@@ -1,40 +1,66 @@
 // The gate: a reader that is offered pieces of what each end sends, and a writer, over one session.
 ghost use mathlib.Core.Path.{_≡_};
-ghost use mathlib.Core.List.{_++_};
-ghost use Prim.Native.Nat.{_+_, _≤_};
+ghost use mathlib.Core.List.{List, _++_};
+ghost use Prim.Native.Nat.{ℕ, _≤_};
 ghost use lib.ListN.{length, take};
-ghost use Rattle.packet.specs.Packet.{contentOf};
+ghost use Rattle.header.specs.declared.Side.{Side};
 ghost use Rattle.header.specs.Link.{sharedSet};
-ghost use Rattle.session.specs.Session.{linkOf};
+ghost use Rattle.packet.specs.Packet.{contentOf};
 ghost use Rattle.frame.specs.Frame.{bytesAt};
-ghost use Rattle.gate.specs.Offer.{heldOf, countAs, heldAs, heldBytes, isWaiting, heldWhole, barred, unmoved, kept, headerRefused, packetTaken, offerOf, outcome, withoutPacket, bodyIn, dataIn, Whole};
-ghost use Rattle.verdict.specs.Verdict.{verdictOf};
+ghost use Rattle.frame.specs.Laws.{Cuts};
+ghost use Rattle.checks.specs.Ruled.{awaited};
+ghost use Rattle.session.specs.declared.Session.{Session};
+ghost use Rattle.session.specs.Session.{linkTo, linkOf, heldIn};
+ghost use Rattle.gate.specs.Offer.{isWaiting, heldWhole, barred, offerOf, outcome, bodyIn, dataIn};
+ghost use Rattle.gate.specs.Decide.{endedWith, concluded, changeIn, rowsIn, Lends, Decides};
+ghost use Rattle.gate.specs.Laws.{Ready};
 ghost use Rattle.gate.specs.Write.{shut, WritesBy};
+use checks::Change;
+use checks::Ruling;
+use checks::awaited_place;
+use checks::rule;
+use decoder::Reading;
+use decoder::read_behind;
+use device::Head;
+use device::Rows;
+use device::start_rows;
 use encoder::Written;
+use events::announced;
+use events::case_of;
 use frame::Cut;
 use frame::Place;
 use frame::complete;
 use frame::cut_of;
+use frame::ends_within;
 use frame::lend;
 use frame::place_of;
+use header::Header;
 use header::Link;
 use header::Side;
 use header::has_passed;
 use header::own_hello_passed;
+use number::get;
 use number::lay;
 use number::part;
+use number::saturating_sub;
 use packet::Packet;
 use packet::is_hello;
 use packet::part_named;
 use packet::part_of;
-use session::Held;
+use requests::Slot;
+use requests::slot_of;
 use session::Session;
+use session::apply;
+use session::held_in;
+use session::hold_to;
 use session::is_unfit;
-use session::link_of;
-use verdict::Handed;
-use verdict::Verdict;
-use verdict::stop;
-use verdict::verdict_of;
+use session::link_to;
+
+// What is handed out: nothing, or the packet that passed as its own reading.
+pub enum Handed {
+    Nothing,
+    Passed(Header, Packet),
+}
 
 // A reader call's number; the bytes that it took of its piece; where the packet lies, or the header that it refused, and its size; and
 // what it hands out.
@@ -52,40 +78,13 @@ pub struct Offered {
     pub answer: Answer,
 }
 
-// The bytes that a direction holds.
-pub fn held_of(s: Session, from: Side) -> usize
-    ensures { λ r. ⌜ r ≡ heldOf from s ⌝ }
-{
-    let held = s.held;
-    match from {
-        Side::Guest => held.guest,
-        Side::Host => held.host,
-    }
-}
-
-fn with_count(held: Held, from: Side, n: usize) -> Held
-    ensures { λ r. ⌜ r ≡ countAs from n held ⌝ }
-{
-    match from {
-        Side::Guest => Held {
-            guest: n,
-            host: held.host,
-        },
-        Side::Host => Held {
-            guest: held.guest,
-            host: n,
-        },
-    }
-}
-
-// The session with so many bytes held in a direction.
-fn hold_count(s: Session, from: Side, n: usize) -> Session
-    ensures { λ r. ⌜ r ≡ heldAs from n s ⌝ }
-{
-    let held = s.held;
-    let mut next = s;
-    next.held = with_count(held, from, n);
-    next
+// A call decided: its answer, the bytes held after it, whether the session is stopped then, and the ruling on its packet. Where the
+// ruling waits for a slot, the answer is that of a packet that passes.
+pub struct Decided {
+    pub answer: Answer,
+    pub held: usize,
+    pub stopped: bool,
+    pub ruling: Ruling,
 }
 
 // The sender's hello has passed and the other's has not.
@@ -97,126 +96,270 @@ fn is_waiting(l: Link) -> bool
     own_hello_passed(l) & !(has_passed(guest) & has_passed(host))
 }
 
-// The held bytes are a whole packet already, or a header that is refused.
-fn is_held_whole(s: Session, from: Side, hold: &[u8]) -> bool
-    ensures { λ r. ⌜ r ≡ heldWhole from s (now (hold .entry)) ⌝ }
+// 41, 43, 3 or 2 where one holds, in that order, else 0. Given are the size of the holding buffer, and whether the held bytes are a whole
+// packet already, or a header that is refused.
+fn barred_by<'a>(
+    h: Head,
+    types: &'a [u8; 32],
+    used: usize,
+    live: &'a [bool; 96],
+    ids: &'a [u64; 96],
+    l: Link,
+    room: usize,
+    whole: bool,
+) -> u8
+    ensures { λ r. ⌜ ((s : Session) (from : Side) (hold : List ℕ) → s .head ≡ h → s .rows .types ≡ now (types .entry) → s .requests .used ≡ used → s .requests .live ≡ now (live .entry) → s .requests .ids ≡ now (ids .entry) → l ≡ linkTo from h → room ≡ length hold → whole ≡ heldWhole from s hold → r ≡ barred from s hold) ⌝ }
 {
-    let c = cut_of(
-        link_of(s, from),
-        part(hold, 0, held_of(s, from)),
-        part(hold, 0, 0),
-    );
-    match c {
-        Cut::More => false,
-        Cut::Refused(_, _) => true,
-        Cut::Whole(_) => true,
-    }
-}
-
-// 41, 43, 3 or 2 where one holds, in that order, else 0.
-fn barred_by(s: Session, from: Side, hold: &[u8]) -> u8
-    ensures { λ r. ⌜ r ≡ barred from s (now (hold .entry)) ⌝ }
-{
-    if hold.len() < 32784 {
+    if room < 32784 {
         return 41;
     }
-    if is_unfit(s) | is_held_whole(s, from, hold) {
+    if is_unfit(h, types, used, live, ids) | whole {
         return 43;
     }
-    if s.stopped {
+    if h.stopped {
         return 3;
     }
-    if is_waiting(link_of(s, from)) { 2 } else { 0 }
+    if is_waiting(l) { 2 } else { 0 }
 }
 
-fn without_packet(s: Session, number: u8, taken: usize) -> Offered
-    ensures { λ r. ⌜ r ≡ withoutPacket s number taken ⌝ }
+// A call by which no packet passes.
+fn ended(number: u8, taken: usize, place: Place, size: usize, held: usize, stopped: bool) -> Decided
+    ensures { λ r. ⌜ r ≡ endedWith number taken place size held stopped ⌝ }
 {
-    let place = Place::Nowhere;
     let handed = Handed::Nothing;
     let answer = Answer {
         number,
         taken,
         place,
-        size: 0,
+        size,
         handed,
     };
-    Offered { session: s, answer }
+    let ruling = Ruling::Passed(Change::Nothing);
+    Decided {
+        answer,
+        held,
+        stopped,
+        ruling,
+    }
 }
 
-// The packet isn't whole: the piece is kept behind what is held.
-fn keep(s: Session, from: Side, hold: &mut [u8], piece: &[u8]) -> Offered
-    requires { ⌜ heldOf from s + length (now piece) ≤ 32783 ⌝ }
-    ensures { λ r. ⌜ outcome (linkOf from s) r (now (piece .entry)) (now (hold .exit)) ≡ kept from s (now (hold .entry)) (now (piece .entry)) ⌝ }
-{
-    let held = held_of(s, from);
-    let taken = piece.len();
-    lay(hold, held, piece);
-    without_packet(hold_count(s, from, held + taken), 1, taken)
-}
-
-// The header is refused: it is completed and stops the session.
-fn refuse_header(
-    s: Session,
-    from: Side,
-    number: u8,
+// The packet is whole: it is completed, read and ruled on.
+fn take_packet<'a>(
+    h: Head,
+    types: &'a [u8; 32],
+    streams: &'a [bool; 32],
+    used: usize,
+    live: &'a [bool; 96],
+    kinds: &'a [u8; 96],
+    ids: &'a [u64; 96],
+    l: Link,
+    held: usize,
+    kind: u32,
+    head: usize,
     size: usize,
     hold: &mut [u8],
     piece: &[u8],
-) -> Offered
-    ensures { λ r. ⌜ outcome (linkOf from s) r (now (piece .entry)) (now (hold .exit)) ≡ headerRefused from s (now (hold .entry)) (now (piece .entry)) number size ⌝ }
+) -> Decided
+    requires { ⌜ size ≤ 32784 ⌝ }
+    ensures { λ r. ⌜ ((s : Session) (from : Side) → Lends s h (now (types .entry)) (now (streams .entry)) used (now (live .entry)) (now (kinds .entry)) (now (ids .entry)) → l ≡ linkTo from h → held ≡ heldIn from h → Ready from s (now (hold .entry)) → Cuts l (take held (now (hold .entry)) ++ now (piece .entry)) kind head size → Decides from s r (now (hold .entry)) (now (piece .entry)) (now (hold .exit))) ⌝ }
 {
-    let held = held_of(s, from);
     let taken = complete(hold, held, piece, size);
-    let session = stop(hold_count(s, from, 0));
     let place = place_of(held);
-    let handed = Handed::Nothing;
-    let answer = Answer {
-        number,
-        taken,
-        place,
-        size,
-        handed,
+    let bytes = lend(place, size, piece, hold);
+    let header = Header {
+        kind,
+        length: saturating_sub(size, head) as u32,
+        id: get(bytes, 8, saturating_sub(head, 8)),
+        size: head,
     };
-    Offered { session, answer }
+    let body = part(bytes, head, bytes.len());
+    let from = l.sender;
+    let reading = read_behind(l, header, body);
+    match reading {
+        Reading::Refused(n) => ended(n, taken, place, size, 0, h.stopped | (kind == 0)),
+        Reading::Passed(g, p) => {
+            let ruling = rule(
+                h,
+                types,
+                streams,
+                used,
+                live,
+                kinds,
+                ids,
+                case_of(from, g.id, p, body),
+            );
+            let handed = Handed::Passed(g, p);
+            let answer = Answer {
+                number: 0,
+                taken,
+                place,
+                size,
+                handed,
+            };
+            Decided {
+                answer,
+                held: 0,
+                stopped: h.stopped,
+                ruling,
+            }
+        }
+    }
 }
 
-// The packet is whole: it is completed and judged.
-fn take_packet(s: Session, from: Side, size: usize, hold: &mut [u8], piece: &[u8]) -> Offered
-    requires { ⌜ Whole (now hold) (now piece) (heldOf from s) size ⌝ }
-    ensures { λ r. ⌜ outcome (linkOf from s) r (now (piece .entry)) (now (hold .exit)) ≡ packetTaken from s (now (hold .entry)) (now (piece .entry)) (verdictOf (heldAs from 0 s) from (take size (heldBytes from s (now (hold .entry)) ++ now (piece .entry)))) size ⌝ }
+// Decides a call over the head and the columns of a session, which are lent. The held bytes stand at the front of hold.
+pub fn decide<'a>(
+    h: Head,
+    types: &'a [u8; 32],
+    streams: &'a [bool; 32],
+    used: usize,
+    live: &'a [bool; 96],
+    kinds: &'a [u8; 96],
+    ids: &'a [u64; 96],
+    from: Side,
+    hold: &mut [u8],
+    piece: &[u8],
+) -> Decided
+    ensures { λ r. ⌜ ((s : Session) → Lends s h (now (types .entry)) (now (streams .entry)) used (now (live .entry)) (now (kinds .entry)) (now (ids .entry)) → Decides from s r (now (hold .entry)) (now (piece .entry)) (now (hold .exit))) ⌝ }
 {
-    let held = held_of(s, from);
-    let idle = hold_count(s, from, 0);
-    let taken = complete(hold, held, piece, size);
-    let place = place_of(held);
-    let v = verdict_of(idle, from, lend(place, size, piece, hold));
-    let session = v.session;
-    let handed = v.handed;
-    let answer = Answer {
-        number: v.number,
-        taken,
-        place,
-        size,
-        handed,
-    };
-    Offered { session, answer }
+    let l = link_to(h, from);
+    let held = held_in(h, from);
+    let begun = part(hold, 0, held);
+    let c = cut_of(l, begun, piece);
+    let whole = ends_within(c, begun.len());
+    let number = barred_by(h, types, used, live, ids, l, hold.len(), whole);
+    if number != 0 {
+        return ended(number, 0, Place::Nowhere, 0, held, h.stopped);
+    }
+    match c {
+        Cut::More => {
+            let taken = piece.len();
+            lay(hold, held, piece);
+            ended(1, taken, Place::Nowhere, 0, held + taken, h.stopped)
+        }
+        Cut::Refused(n, size) => {
+            let taken = complete(hold, held, piece, size);
+            ended(n, taken, place_of(held), size, 0, true)
+        }
+        Cut::Whole(kind, head, size) => take_packet(
+            h,
+            types,
+            streams,
+            used,
+            live,
+            kinds,
+            ids,
+            l,
+            held,
+            kind,
+            head,
+            size,
+            hold,
+            piece,
+        ),
+    }
+}
+
+// The place whose slot a decision waits for, 96 where it waits for none.
+pub fn wanted(d: Decided) -> usize
+    ensures { λ r. ⌜ r ≡ awaited (d .ruling) ⌝ }
+{
+    let ruling = d.ruling;
+    awaited_place(ruling)
+}
+
+// A decision with the slot that it waits for.
+pub fn settle(d: Decided, slot: Slot) -> Decided
+    ensures { λ r. ⌜ r ≡ concluded d slot ⌝ }
+{
+    let answer = d.answer;
+    let waiting = d.ruling;
+    let ruling = checks::settle(waiting, slot);
+    match ruling {
+        Ruling::Refused(number) => {
+            let place = answer.place;
+            ended(number, answer.taken, place, answer.size, d.held, d.stopped)
+        }
+        Ruling::Passed(_) => Decided {
+            answer,
+            held: d.held,
+            stopped: d.stopped,
+            ruling,
+        },
+        Ruling::Pending(_, _, _, _, _) => Decided {
+            answer,
+            held: d.held,
+            stopped: d.stopped,
+            ruling: Ruling::Passed(Change::Nothing),
+        },
+    }
+}
+
+// What a decision that waits for no slot does.
+pub fn change_of(d: Decided) -> Change
+    ensures { λ r. ⌜ r ≡ changeIn (d .ruling) ⌝ }
+{
+    let ruling = d.ruling;
+    match ruling {
+        Ruling::Refused(_) => Change::Nothing,
+        Ruling::Passed(c) => c,
+        Ruling::Pending(_, _, _, _, _) => Change::Nothing,
+    }
+}
+
+// The rows that a packet which is handed out announces.
+pub fn rows_told(handed: Handed, body: &[u8]) -> Rows
+    ensures { λ r. ⌜ ((from : Side) (s : Session) (bytes : List ℕ) → bodyIn handed bytes ≡ now (body .entry) → r ≡ rowsIn from s handed bytes) ⌝ }
+{
+    match handed {
+        Handed::Nothing => start_rows(),
+        Handed::Passed(_, p) => announced(p, body),
+    }
 }
 
 // Offers a piece of what a side sends: the core, which takes and returns the session. The held bytes stand at the front of hold.
 pub fn offer(s: Session, from: Side, hold: &mut [u8], piece: &[u8]) -> Offered
     ensures { λ r. ⌜ outcome (linkOf from s) r (now (piece .entry)) (now (hold .exit)) ≡ offerOf from s (now (hold .entry)) (now (piece .entry)) ⌝ }
 {
-    let number = barred_by(s, from, hold);
-    if number != 0 {
-        return without_packet(s, number, 0);
-    }
-    let c = cut_of(link_of(s, from), part(hold, 0, held_of(s, from)), piece);
-    match c {
-        Cut::More => keep(s, from, hold, piece),
-        Cut::Refused(n, size) => refuse_header(s, from, n, size, hold, piece),
-        Cut::Whole(size) => take_packet(s, from, size, hold, piece),
-    }
+    let h = s.head;
+    let rows = s.rows;
+    let t = s.requests;
+    let d = decide(
+        h,
+        &rows.types,
+        &rows.streams,
+        t.used,
+        &t.live,
+        &t.kinds,
+        &t.ids,
+        from,
+        hold,
+        piece,
+    );
+    let e = settle(d, slot_of(t, wanted(d)));
+    let answer = e.answer;
+    let handed = answer.handed;
+    let head = hold_to(h, from, e.held, e.stopped);
+    let before = Session {
+        head,
+        rows,
+        requests: t,
+    };
+    let session = apply(
+        before,
+        from,
+        change_of(e),
+        rows_told(handed, body_of(answer, piece, hold)),
+    );
+    Offered { session, answer }
+}
+
+// The same for callers that keep a session record, which is changed in place.
+pub fn offer_in_place(s: &mut Session, from: Side, hold: &mut [u8], piece: &[u8]) -> Answer
+    ensures { λ r. ⌜ outcome (linkOf from (now (s .entry))) (record { session = now (s .exit); answer = r }) (now (piece .entry)) (now (hold .exit)) ≡ offerOf from (now (s .entry)) (now (hold .entry)) (now (piece .entry)) ⌝ }
+{
+    let r = offer(*s, from, hold, piece);
+    *s = r.session;
+    r.answer
 }
 
 // The bytes of the packet, or of the header that was refused, where they lie when the call is over.
@@ -252,16 +395,24 @@ pub fn data_of<'a>(a: Answer, piece: &'a [u8], hold: &'a [u8]) -> &'a [u8]
 }
 
 // 43, 3 or 2 where one holds for a packet to be written, in that order, else 0.
-fn shut_by(s: Session, from: Side, hello: bool) -> u8
-    ensures { λ r. ⌜ r ≡ shut from s hello ⌝ }
+fn shut_by<'a>(
+    h: Head,
+    types: &'a [u8; 32],
+    used: usize,
+    live: &'a [bool; 96],
+    ids: &'a [u64; 96],
+    from: Side,
+    hello: bool,
+) -> u8
+    ensures { λ r. ⌜ ((s : Session) → s .head ≡ h → s .rows .types ≡ now (types .entry) → s .requests .used ≡ used → s .requests .live ≡ now (live .entry) → s .requests .ids ≡ now (ids .entry) → r ≡ shut from s hello) ⌝ }
 {
-    if is_unfit(s) {
+    if is_unfit(h, types, used, live, ids) {
         return 43;
     }
-    if s.stopped {
+    if h.stopped {
         return 3;
     }
-    if is_waiting(link_of(s, from)) & !hello {
+    if is_waiting(link_to(h, from)) & !hello {
         2
     } else {
         0
@@ -272,9 +423,12 @@ fn shut_by(s: Session, from: Side, hello: bool) -> u8
 pub fn write(s: Session, from: Side, id: u64, p: Packet, body: &[u8], out: &mut [u8]) -> Written
     ensures { λ r. ⌜ WritesBy from s (contentOf (sharedSet (linkOf from s)) id p (now (body .entry))) (now (out .entry)) r (now (out .exit)) ⌝ }
 {
-    let number = shut_by(s, from, is_hello(p));
+    let h = s.head;
+    let rows = s.rows;
+    let t = s.requests;
+    let number = shut_by(h, &rows.types, t.used, &t.live, &t.ids, from, is_hello(p));
     if number != 0 {
         return Written { number, size: 0 };
     }
-    encoder::write(link_of(s, from), id, p, body, out)
+    encoder::write(link_to(h, from), id, p, body, out)
 }

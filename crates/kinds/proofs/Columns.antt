@@ -1,67 +1,87 @@
--- The code's arrays are columns of the table: each is, by computation, the `map` of what it holds of a kind.
+-- The columns that the code has are the table's: each is, by computation, the `map` of what it holds of a kind. A column of the code names some
+-- slots; the others, in the table and past it, have its default (`unnamed`).
 -- Assumes nothing.
-use mathlib.Core.Path.{_≡_, refl, sym, _∙_}
-use mathlib.Core.Bool.{Bool, cond, not, _&&_, _||_, or-false}
-use mathlib.Core.List.{List, map}
+use mathlib.Core.Path.{_≡_, refl, sym, ap, _∙_}
+use mathlib.Core.Bool.{Bool, true, false, cond, _||_, false≢true, true≢false}
+use mathlib.Core.List.{List, [], _∷_, map}
 use Prim.Native.Nat.{ℕ, _≤_, _<_}
-use lib.ListN.{length, getD, set, List·getD-map, List·getD-eq-default}
-use lib.Seq.{drop-cons, getD-set-other}
-use lib.Dec.{eqb}
+use lib.ListN.{set, List·getD-map, List·getD-eq-default}
+use lib.Seq.{getD-set-other}
+use lib.Dec.{eqb, leb}
+use borrow.Author.Tests.{ne-eqb, leb-true, leb-false}
 use borrow.Table.Steps.{cases}
 use Rattle.number.specs.Bits.{hasBit}
 use Rattle.header.specs.declared.Side.{Side}
-use Rattle.kinds.specs.Table.{Sender, G, H, B, Bits, always, bit, bits, Kind, kinds, kindAt, none-such}
-use Rattle.kinds.specs.Content.{shared, size}
+use Rattle.header.specs.declared.Side.the-variants.{Guest, Host}
+use Rattle.kinds.specs.Table.{Kind, kinds, kindAt, none-such}
+use Rattle.kinds.specs.Content.{shared, size, neededBit}
 use Rattle.kinds.specs.Number.{sends, isGuest}
+use Rattle.kinds.specs.Slots.{from, column}
 
 -- past the table there is no kind
 pub past : (slot : ℕ) → 33 ≤ slot → kindAt slot ≡ none-such
 unfolding kinds
 past slot h = List·getD-eq-default kinds none-such h
 
--- ---- senders: 0 both, 1 the guest, 2 the host
+-- ---- a column as the code has it: the slots that it names with what stands there, and one default for the others
 
-abbrev sender : Sender → ℕ
-sender B = 0
-sender G = 1
-sender H = 2
+pub record Entry : Type 0 where
+  pub slot : ℕ
+  pub value : ℕ
 
-abbrev senderOf : Kind → ℕ
-senderOf k = sender (k .sender)
+infix 85 _at_
+abbrev _at_ : ℕ → ℕ → Entry
+v at k = record { slot = k; value = v }
 
-abbrev sendsBy : ℕ → Side → Bool
-sendsBy s from = eqb s 0 || (eqb s 1 && isGuest from) || (eqb s 2 && not (isGuest from))
+abbrev valueAt : List Entry → ℕ → ℕ → ℕ
+valueAt [] d slot = d
+valueAt (x ∷ xs) d slot = cond (eqb slot (x .slot)) (x .value) (valueAt xs d slot)
 
-pub sender-column : (slot : ℕ) (from : Side) → sendsBy (getD (map senderOf kinds) slot 0) from ≡ sends (kindAt slot .sender) from
-sender-column slot from = rw (List·getD-map senderOf kinds slot none-such) (each (kindAt slot .sender))
-  where
-    each : (s : Sender) → sendsBy (sender s) from ≡ sends s from
-    each B = refl
-    each G = or-false (isGuest from)
-    each H = refl
+-- none of the entries' slots: what a `match` leaves to its last arm
+abbrev pub NoneOf : List Entry → ℕ → Type 0
+NoneOf [] slot = Unit {0}
+NoneOf (x ∷ xs) slot = NoneOf xs slot × (slot ≡ x .slot → ⊥)
 
--- ---- needed bits: 32 none; no kind needs two
+default : (xs : List Entry) (d slot : ℕ) → NoneOf xs slot → valueAt xs d slot ≡ d
+default [] d slot n = refl
+default (x ∷ xs) d slot n = rw (ne-eqb slot (x .slot) (n .1)) (default xs d slot (n .0))
 
-abbrev need : Bits → ℕ
-need always = 32
-need (bit j) = j
-need (bits j k) = 32
+-- a slot that a column does not name has the default, in the table and past it
+module _ (f : Kind → ℕ) (xs : List Entry) (e : map f kinds ≡ map (valueAt xs (f none-such)) (from 33 0)) where
+  unnamed : (slot : ℕ) → NoneOf xs slot → f none-such ≡ f (kindAt slot)
+  unnamed slot n =
+      cases (leb 33 slot)
+      (λ t. sym (ap f (past slot (leb-true 33 slot t))))
+      (λ t. sym (column f (valueAt xs (f none-such)) e slot (leb-false 33 slot t) ∙ default xs (f none-such) slot n))
 
-abbrev needOf : Kind → ℕ
-needOf k = need (k .needs)
+-- ---- senders: a bit for each slot
+
+pub guest-column : (slot : ℕ) → slot < 33 → (from : Side) → isGuest from ≡ true → hasBit 4159551177 slot ≡ sends (kindAt slot .sender) from
+unfolding kinds
+guest-column slot h Guest e = sym (column (λ (k : Kind). sends (k .sender) Guest) (hasBit 4159551177) refl slot h)
+guest-column slot h Host e = absurd (false≢true e)
+
+pub host-column : (slot : ℕ) → slot < 33 → (from : Side) → isGuest from ≡ false → hasBit 8465303863 slot ≡ sends (kindAt slot .sender) from
+unfolding kinds
+host-column slot h Guest e = absurd (true≢false e)
+host-column slot h Host e = sym (column (λ (k : Kind). sends (k .sender) Host) (hasBit 8465303863) refl slot h)
+
+-- ---- needed bits
 
 abbrev sharedBy : ℕ → ℕ → Bool
 sharedBy caps n = eqb n 32 || hasBit caps n
 
--- where there is an element, the default is not asked for
-default : (l : List ℕ) (i d e : ℕ) → i < length l → getD l i d ≡ getD l i e
-default l i d e h = cc (drop-cons l i d h, drop-cons l i e h)
-
-pub need-column : (slot caps : ℕ) → slot < 33 → sharedBy caps (getD (map needOf kinds) slot 0) ≡ shared caps (kindAt slot .needs)
+pub need-shared : (slot caps : ℕ) → sharedBy caps (neededBit (kindAt slot .needs)) ≡ shared caps (kindAt slot .needs)
 unfolding kinds
-need-column slot caps h =
-    rw (default (map needOf kinds) slot 0 32 h)
-    (sym (List·getD-map (sharedBy caps) (map needOf kinds) slot 32) ∙ List·getD-map (λ (k : Kind). shared caps (k .needs)) kinds slot none-such)
+need-shared slot caps =
+    sym (List·getD-map (λ (k : Kind). sharedBy caps (neededBit (k .needs))) kinds slot none-such) ∙ List·getD-map (λ (k : Kind). shared caps (k .needs)) kinds slot none-such
+
+abbrev needs : List Entry
+needs = 7 at 32 ∷ 7 at 27 ∷ 7 at 26 ∷ 7 at 25 ∷ 3 at 24 ∷ 2 at 23 ∷ 2 at 22 ∷ 0 at 20 ∷ 0 at 19 ∷ 0 at 18 ∷ []
+
+pub none-needed : (slot : ℕ) → NoneOf needs slot → 32 ≡ neededBit (kindAt slot .needs)
+unfolding kinds
+none-needed slot n = unnamed (λ (k : Kind). neededBit (k .needs)) needs refl slot n
 
 -- ---- sizes
 
@@ -69,8 +89,12 @@ need-column slot caps h =
 abbrev sizeUnder : ℕ → Kind → ℕ
 sizeUnder caps k = size (shared caps) (k .fields)
 
-pub size-column : (slot : ℕ) → getD (map (sizeUnder 0) kinds) slot 0 ≡ sizeUnder 0 (kindAt slot)
-size-column slot = List·getD-map (sizeUnder 0) kinds slot none-such
+abbrev sizes : List Entry
+sizes = 10 at 32 ∷ 4 at 31 ∷ 4 at 30 ∷ 8 at 29 ∷ 10 at 28 ∷ 6 at 27 ∷ 5 at 26 ∷ 10 at 25 ∷ 9 at 20 ∷ 4 at 19 ∷ 8 at 18 ∷ 2 at 17 ∷ 1 at 16 ∷ 1 at 15 ∷ 2 at 14 ∷ 1 at 13 ∷ 3 at 12 ∷ 3 at 11 ∷ 1 at 10 ∷ 2 at 9 ∷ 2 at 8 ∷ 1 at 6 ∷ 96 at 5 ∷ 132 at 4 ∷ 8 at 1 ∷ 64 at 0 ∷ []
+
+pub no-size : (slot : ℕ) → NoneOf sizes slot → 0 ≡ sizeUnder 0 (kindAt slot)
+unfolding kinds
+no-size slot n = unnamed (sizeUnder 0) sizes refl slot n
 
 -- a shared set changes no size but those of kinds 1, 5 and 101
 changes : (caps : ℕ)
@@ -80,7 +104,7 @@ unfolding kinds
 changes caps = refl
 
 pub others : (caps slot : ℕ) → (slot ≡ 1 → ⊥) → (slot ≡ 5 → ⊥) → (slot ≡ 29 → ⊥) → sizeUnder caps (kindAt slot) ≡ sizeUnder 0 (kindAt slot)
-others caps slot a b c = rw (← List·getD-map (sizeUnder caps) kinds slot none-such, changes caps, getD-set-other, getD-set-other, getD-set-other) (size-column slot)
+others caps slot a b c = rw (← List·getD-map (sizeUnder caps) kinds slot none-such, changes caps, getD-set-other, getD-set-other, getD-set-other) (List·getD-map (sizeUnder 0) kinds slot none-such)
 
 pub connect-size : (caps : ℕ) → cond (hasBit caps 1) 10 8 ≡ sizeUnder caps (kindAt 1)
 unfolding kinds

@@ -38,6 +38,12 @@ shared caps always = true
 shared caps (bit j) = hasBit caps j
 shared caps (bits j k) = hasBit caps j && hasBit caps k
 
+-- a bit that is needed; 32 where none is, and no kind of the table needs two
+abbrev pub neededBit : Bits → ℕ
+neededBit always = 32
+neededBit (bit j) = j
+neededBit (bits j k) = 32
+
 -- a field's bytes: none where it is not there. `has` says which are there: for bytes off the wire, those that are shared.
 abbrev pub sizeOf : (Bits → Bool) → Field → ℕ
 sizeOf has f = cond (has (f .there)) (f .width * f .times) 0

@@ -2,122 +2,16 @@
 // number and 100 to 104 at 28 to 32. A slot past these asks for no kind: any sender, no bit, no field.
 ghost use mathlib.Core.Path.{_≡_};
 ghost use Rattle.kinds.specs.Table.{kindAt};
-ghost use Rattle.kinds.specs.Content.{shared, size};
+ghost use Rattle.kinds.specs.Content.{shared, size, neededBit};
 ghost use Rattle.kinds.specs.Number.{sends, isGuest};
 use header::Side;
 use number::choose;
 use number::has_bit;
 
-// 0: both send, 1: the guest, 2: the host.
-const SENDERS: [u8; 33] = [
-    0,
-    2,
-    2,
-    1,
-    2,
-    2,
-    1,
-    1,
-    2,
-    1,
-    1,
-    2,
-    1,
-    1,
-    2,
-    1,
-    1,
-    2,
-    1,
-    1,
-    2,
-    1,
-    1,
-    0,
-    1,
-    1,
-    1,
-    2,
-    0,
-    0,
-    0,
-    0,
-    2,
-];
+// The kinds that the guest sends and those that the host sends, a bit for each slot.
+const GUEST: u64 = 4159551177;
 
-// The bit that a kind needs; 32: none.
-const NEEDED: [u32; 33] = [
-    32,
-    32,
-    32,
-    32,
-    32,
-    32,
-    32,
-    32,
-    32,
-    32,
-    32,
-    32,
-    32,
-    32,
-    32,
-    32,
-    32,
-    32,
-    0,
-    0,
-    0,
-    32,
-    2,
-    2,
-    3,
-    7,
-    7,
-    7,
-    32,
-    32,
-    32,
-    32,
-    7,
-];
-
-// The bytes of a kind's fields, without those that a shared bit adds.
-const SIZES: [usize; 33] = [
-    64,
-    8,
-    0,
-    0,
-    132,
-    96,
-    1,
-    0,
-    2,
-    2,
-    1,
-    3,
-    3,
-    1,
-    2,
-    1,
-    1,
-    2,
-    8,
-    4,
-    9,
-    0,
-    0,
-    0,
-    0,
-    10,
-    5,
-    6,
-    10,
-    8,
-    4,
-    4,
-    10,
-];
+const HOST: u64 = 8465303863;
 
 pub fn is_guest(from: Side) -> bool
     ensures { λ r. ⌜ r ≡ isGuest from ⌝ }
@@ -135,19 +29,37 @@ pub fn may_send(slot: usize, from: Side) -> bool
     if 33 <= slot {
         return true;
     }
-    let s = SENDERS[slot];
-    let guest = is_guest(from);
-    (s == 0) | ((s == 1) & guest) | ((s == 2) & !guest)
+    if is_guest(from) {
+        (GUEST >> slot) & 1 == 1
+    } else {
+        (HOST >> slot) & 1 == 1
+    }
+}
+
+// The bit that the kind needs; 32: none.
+fn needed(slot: usize) -> u32
+    ensures { λ r. ⌜ r ≡ neededBit (kindAt slot .needs) ⌝ }
+{
+    match slot {
+        18 => 0,
+        19 => 0,
+        20 => 0,
+        22 => 2,
+        23 => 2,
+        24 => 3,
+        25 => 7,
+        26 => 7,
+        27 => 7,
+        32 => 7,
+        _ => 32,
+    }
 }
 
 // The bit that the kind needs is shared.
 pub fn is_shared(slot: usize, caps: u32) -> bool
     ensures { λ r. ⌜ r ≡ shared caps (kindAt slot .needs) ⌝ }
 {
-    if 33 <= slot {
-        return true;
-    }
-    let k = NEEDED[slot];
+    let k = needed(slot);
     (k == 32) | has_bit(caps, k)
 }
 
@@ -167,5 +79,33 @@ pub fn fields_size(slot: usize, caps: u32) -> usize
 fn other_size(slot: usize) -> usize
     ensures { λ r. ⌜ r ≡ size (shared 0) (kindAt slot .fields) ⌝ }
 {
-    if slot < 33 { SIZES[slot] } else { 0 }
+    match slot {
+        0 => 64,
+        1 => 8,
+        4 => 132,
+        5 => 96,
+        6 => 1,
+        8 => 2,
+        9 => 2,
+        10 => 1,
+        11 => 3,
+        12 => 3,
+        13 => 1,
+        14 => 2,
+        15 => 1,
+        16 => 1,
+        17 => 2,
+        18 => 8,
+        19 => 4,
+        20 => 9,
+        25 => 10,
+        26 => 5,
+        27 => 6,
+        28 => 10,
+        29 => 8,
+        30 => 4,
+        31 => 4,
+        32 => 10,
+        _ => 0,
+    }
 }

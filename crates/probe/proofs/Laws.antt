@@ -21,8 +21,8 @@ use Rattle.packet.specs.declared.Optional16.the-variants.{Absent, Present}
 use Rattle.packet.specs.declared.Packet.{Packet}
 use Rattle.packet.specs.declared.Packet.the-variants.{Connect, Bulk}
 use Rattle.packet.specs.Packet.{optional, high, shownOf}
-use Rattle.rows.specs.declared.InterfaceRow.{InterfaceRow}
-use Rattle.rows.specs.declared.EndpointRow.{EndpointRow}
+use Rattle.packet.specs.declared.InterfaceRow.{InterfaceRow}
+use Rattle.packet.specs.declared.EndpointRow.{EndpointRow}
 use Rattle.probe.specs.Probe.{value16, value32Of, highNumber}
 
 -- ---- seven numbers, the last of them zeros

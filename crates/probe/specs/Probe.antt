@@ -20,9 +20,9 @@ use Rattle.packet.specs.declared.Optional16.{Optional16}
 use Rattle.packet.specs.declared.Optional16.the-variants.{Absent, Present}
 use Rattle.packet.specs.declared.Packet.the-variants.{Bulk}
 use Rattle.packet.specs.Packet.{contentOf}
-use Rattle.rows.specs.declared.Optional32.{Optional32}
-use Rattle.rows.specs.declared.Optional32.the-variants.{Absent as Absent32, Present as Present32}
-use Rattle.rows.specs.Rows.{interfaceRow, endpointRow}
+use Rattle.packet.specs.declared.Optional32.{Optional32}
+use Rattle.packet.specs.declared.Optional32.the-variants.{Absent as Absent32, Present as Present32}
+use Rattle.packet.specs.Rows.{interfaceRow, endpointRow}
 use Rattle.decoder.specs.Reading.{frontFields, partOf}
 
 abbrev pub helloOf : ℕ → Hello

@@ -23,11 +23,11 @@ use header::side_of;
 use number::has_bit;
 use number::part;
 use packet::Optional16;
+use packet::Optional32;
 use packet::Packet;
 use packet::Part;
-use rows::Optional32;
-use rows::endpoint_row;
-use rows::interface_row;
+use packet::endpoint_row;
+use packet::interface_row;
 use rules::facts_of;
 
 fn hello_of(word: u64) -> Hello

@@ -2,8 +2,10 @@
 -- The loop keeps `Replaying`: the numbers of the rest of the script, laid behind those so far, give the output and the count that all of them
 -- give. A whole packet unfolds `numbersOf` once: its verdict's number is the next to lay, and its session the one to go on with
 -- (`replay-goes-on`). At a packet that is cut short, or where the output is full, no number is left (`replay-short`, `replay-full`).
+-- The ids of live requests differ throughout, so that each packet gets its verdict (`verdict-ids`).
 -- Assumes nothing.
-use mathlib.Core.Path.{_≡_, refl, ap, _∙_}
+use mathlib.Core.Path.{_≡_, refl, _∙_}
+use mathlib.Core.Bool.{true}
 use mathlib.Core.List.{List, [], _∷_}
 use Prim.Native.Nat.{ℕ, zero, suc, _+_, _-_, _≤_, _<_}
 use native.Mathlib.Nat.{zero-add, add-zero, sub-zero}
@@ -15,11 +17,14 @@ use lib.Seq.{sets, slice, drop-drop}
 use Rattle.number.specs.Little.{le}
 use Rattle.header.specs.declared.Side.{Side}
 use Rattle.header.specs.Link.{sideOf}
+use Rattle.requests.specs.Requests.{idsDiffer}
 use Rattle.session.specs.declared.Session.{Session}
-use Rattle.session.specs.Session.{freshSession, linkOf}
-use Rattle.verdict.specs.declared.Verdict.{Verdict}
-use Rattle.verdict.specs.Verdict.{VerdictTold, verdictOf, tells}
-use Rattle.replay.specs.Replay.{sizeAt, verdictAt, numbersOf, Replays}
+use Rattle.session.specs.Session.{freshSession}
+use Rattle.gate.specs.Verdict.{verdictOf}
+use Rattle.claims.specs.Runs.{start-sound}
+use Rattle.replay.specs.declared.Judged.{Judged}
+use Rattle.replay.specs.Replay.{sizeAt, verdictAt, numbersOf, Replays, Gives}
+use Rattle.replay.proofs.Judging.{verdict-ids}
 
 -- ---- a script
 
@@ -28,12 +33,20 @@ pub record Replaying (script before after : List ℕ) (s : Session) (at k : ℕ)
   pub within : at ≤ length script
   pub room : k ≤ length before
   pub same-length : length after ≡ length before
+  pub ids : idsDiffer (s .requests) ≡ true
   pub count : k + length (numbersOf (length before - k) s (drop at script)) ≡ length (numbersOf (length before) freshSession script)
   pub output : sets after k (numbersOf (length before - k) s (drop at script)) ≡ sets before 0 (numbersOf (length before) freshSession script)
 
 pub replay-starts : {script out : List ℕ} {s : Session} → s ≡ freshSession → Replaying script out out s 0 0
 replay-starts e =
-    record { within = omega arith; room = omega arith; same-length = refl; count = rw (e, sub-zero, zero-add); output = rw (e, sub-zero) }
+    record {
+      within = omega arith;
+      room = omega arith;
+      same-length = refl;
+      ids = rw e (start-sound .ids);
+      count = rw (e, sub-zero, zero-add);
+      output = rw (e, sub-zero);
+    }
 
 -- the numbers that a script gives, by what stands at its front
 numbers-whole : (n : ℕ) (s : Session) (rest : List ℕ) → sizeAt rest ≤ length rest
@@ -60,29 +73,29 @@ numbers-more s script at n e h x y =
 
 module _ {script before after : List ℕ} {s : Session} {at k : ℕ} (p : Replaying script before after s at k) where
   -- a whole packet: its number is laid behind the others, and what is to come stands behind it in the script
-  pub replay-goes-on : {rest : List ℕ} {n b : ℕ} {from : Side} {bytes : List ℕ} (v : Verdict) → k < length after
+  pub replay-goes-on : {rest : List ℕ} {n b : ℕ} {from : Side} {bytes : List ℕ} (v : Judged) → k < length after
       → rest ≡ drop at script
       → n ≡ le 2 rest 1
       → 3 + n ≤ length rest
       → b ≡ le 1 rest 0
       → from ≡ sideOf b
       → bytes ≡ slice 3 (3 + n) rest
-      → tells (linkOf from s) bytes v ≡ verdictOf s from bytes
+      → (idsDiffer (s .requests) ≡ true → Gives v (verdictOf s from bytes))
       → Replaying script before (set after k (v .number)) (v .session) (at + (3 + n)) (k + 1)
   replay-goes-on {n = n} {from = from} {bytes = bytes} v h r en w eb ef by ev =
       let a : verdictOf s from bytes ≡ verdictAt s (drop at script) = rw (ef, eb, by, en, r) in
-      let x : v .number ≡ verdictAt s (drop at script) .number = ap (λ (t : VerdictTold). t .number) (ev ∙ a) in
-      let y : v .session ≡ verdictAt s (drop at script) .session = ap (λ (t : VerdictTold). t .session) (ev ∙ a) in
+      let g : Gives v (verdictAt s (drop at script)) = rw a at (ev (p .ids)) in
       let m : 3 + n ≡ sizeAt (drop at script) = rw (en, r) in
       let l : 3 + n ≤ length (drop at script) = rw r at w in
       let d = length-drop at script in
       let e : length before - k ≡ suc (length before - (k + 1)) = omega (arith, p .same-length) in
       let q : numbersOf (length before - k) s (drop at script) ≡ v .number ∷ numbersOf (length before - (k + 1)) (v .session) (drop (at + (3 + n)) script)
-      = rw e (numbers-more s script at (length before - (k + 1)) m l x y) in
+      = rw e (numbers-more s script at (length before - (k + 1)) m l (g .number) (g .session)) in
       record {
         within = omega (arith, p .within);
         room = omega (arith, p .same-length);
         same-length = rw length-set (p .same-length);
+        ids = rw (ev (p .ids) .session) (verdict-ids s from bytes (p .ids));
         count = omega (arith, rw q at (p .count));
         output = rw (add-one k) (rw (q, add-one k) at (p .output));
       }

@@ -12,7 +12,8 @@ use Rattle.number.specs.Little.{le}
 use Rattle.header.specs.Link.{sideOf}
 use Rattle.session.specs.declared.Session.{Session}
 use Rattle.session.specs.Session.{freshSession}
-use Rattle.verdict.specs.Verdict.{VerdictTold, verdictOf}
+use Rattle.gate.specs.Verdict.{VerdictTold, verdictOf}
+use Rattle.replay.specs.declared.Judged.{Judged}
 
 -- ---- a script: for each packet a byte for its sender, two for its size, and its bytes
 
@@ -35,3 +36,10 @@ numbersOf (suc n) s script = cond (isWhole script) (verdictAt s script .number �
 pub record Replays (script before after : List ℕ) (count : ℕ) : Type 0 where
   pub count-is : count ≡ length (numbersOf (length before) freshSession script)
   pub output : after ≡ sets before 0 (numbersOf (length before) freshSession script)
+
+-- ---- what the code's types say
+
+-- the session and the number of a verdict; what is handed out is left out
+pub record Gives (r : Judged) (v : VerdictTold) : Type 0 where
+  pub session : r .session ≡ v .session
+  pub number : r .number ≡ v .number

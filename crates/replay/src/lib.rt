@@ -1,13 +1,105 @@
 // Packets judged whole, one after the other, from a fresh session: for hosts in other languages that test the session. It is not the
 // gate: it holds nothing and never stops.
 ghost use mathlib.Core.Path.{_≡_};
-ghost use Rattle.replay.specs.Replay.{Replays};
+ghost use mathlib.Core.Bool.{true};
+ghost use mathlib.Core.Option.{Option};
+ghost use Rattle.decoder.specs.Reading.{PacketTold};
+ghost use Rattle.requests.specs.Requests.{idsDiffer};
+ghost use Rattle.gate.specs.Verdict.{refusedAs, verdictOf};
+ghost use Rattle.gate.specs.Judge.{ruledAs};
+ghost use Rattle.replay.specs.Replay.{Replays, Gives};
+use checks::Ruling;
+use checks::awaited_place;
+use checks::rule;
+use checks::settle;
+use decoder::Reading;
+use decoder::read;
+use device::Rows;
+use events::announced;
+use events::case_of;
+use header::Side;
 use header::side_of;
 use number::get8;
 use number::get16;
+use number::get32;
 use number::part;
+use requests::slot_of;
+use session::Session;
+use session::apply;
 use session::fresh_session;
-use verdict::verdict_of;
+use session::link_to;
+
+// The session after a packet, and the packet's number.
+struct Judged {
+    session: Session,
+    number: u8,
+}
+
+// A packet that the wire checks refuse: a hello stops the session.
+fn refuse(s: Session, kind: u32) -> Session
+    ensures { λ r. ⌜ r ≡ refusedAs s kind ⌝ }
+{
+    let mut head = s.head;
+    let rows = s.rows;
+    let requests = s.requests;
+    if kind == 0 {
+        head.stopped = true;
+    }
+    Session {
+        head,
+        rows,
+        requests,
+    }
+}
+
+// What a ruling that waits for no slot comes to, on a packet that announces these rows.
+fn conclude(s: Session, from: Side, ruling: Ruling, new: Rows) -> Judged
+    ensures { λ r. ⌜ ((out : Option PacketTold) → Gives r (ruledAs s from out new ruling)) ⌝ }
+{
+    match ruling {
+        Ruling::Refused(number) => Judged { session: s, number },
+        Ruling::Passed(c) => Judged {
+            session: apply(s, from, c, new),
+            number: 0,
+        },
+        Ruling::Pending(_, _, _, _, _) => Judged {
+            session: s,
+            number: 0,
+        },
+    }
+}
+
+// Judges the bytes of one whole packet: the wire checks, then the session checks. A reply finds its request by its id, so that no two
+// live requests may have one; from a fresh session on none do.
+fn judge(s: Session, from: Side, bytes: &[u8]) -> Judged
+    ensures { λ r. ⌜ (idsDiffer (s .requests) ≡ true → Gives r (verdictOf s from (now (bytes .entry)))) ⌝ }
+{
+    let h = s.head;
+    let rows = s.rows;
+    let t = s.requests;
+    let reading = read(link_to(h, from), bytes);
+    match reading {
+        Reading::Refused(number) => Judged {
+            session: refuse(s, get32(bytes, 0)),
+            number,
+        },
+        Reading::Passed(g, p) => {
+            let body = part(bytes, g.size, bytes.len());
+            let u = rule(
+                h,
+                &rows.types,
+                &rows.streams,
+                t.used,
+                &t.live,
+                &t.kinds,
+                &t.ids,
+                case_of(from, g.id, p, body),
+            );
+            let ruling = settle(u, slot_of(t, awaited_place(u)));
+            conclude(s, from, ruling, announced(p, body))
+        }
+    }
+}
 
 // Writes the number of each packet of a script, as far as the script and the output go, and tells how many.
 #[no_mangle]
@@ -23,7 +115,7 @@ pub extern "C" fn replay(script: &[u8], out: &mut [u8]) -> usize
         if rest.len() < size {
             return k;
         }
-        let v = verdict_of(s, side_of(get8(rest, 0)), part(rest, 3, size));
+        let v = judge(s, side_of(get8(rest, 0)), part(rest, 3, size));
         out[k] = v.number;
         s = v.session;
         at = at + size;

@@ -234,7 +234,7 @@ whole-output {guest-after} {host-after} q lo over w more none-behind =
     let p = q .state in
     let total = totalsOf (progress p guest-after host-after) in
     let room : p .size + length total ≤ length (q .buffer)
-    = omega (arith, q .runs .fits .room, totals-short (p .totals .passed) (p .totals .refused) (p .session .stopped), turns-length t, lo) in
+    = omega (arith, q .runs .fits .room, totals-short (p .totals .passed) (p .totals .refused) (p .session .head .stopped), turns-length t, lo) in
     turns-keep t (record { order = omega arith; within = omega arith; room = omega arith }) lo more none-behind
     ∙ ap (λ (x : List ℕ). writtenBy t ++ (take (p .size) (q .buffer) ++ x)) (ends-total t refl over w more none-behind)
     ∙ ap (λ (x : List ℕ). writtenBy t ++ x) (sym (ap (take (p .size + length total)) (q .output) ∙ take-sets (q .buffer) total (p .size) room))

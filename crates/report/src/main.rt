@@ -197,12 +197,13 @@ fn run(guest: &mut [u8], host: &mut [u8], input: &mut [u8], out: &mut [u8]) -> S
 // Prints the totals behind the output that is not written yet.
 fn print_totals(p: State, out: &mut [u8])
     requires { ⌜ Fits p × (length (now out) ≡ 262144) ⌝ }
-    ensures { λ _. ⌜ now (out .exit) ≡ sets (now (out .entry)) (p .size) (totalsLine (p .totals .passed) (p .totals .refused) (p .session .stopped)) ⌝ }
+    ensures { λ _. ⌜ now (out .exit) ≡ sets (now (out .entry)) (p .size) (totalsLine (p .totals .passed) (p .totals .refused) (p .session .head .stopped)) ⌝ }
 {
     let totals = p.totals;
     let session = p.session;
+    let head = session.head;
     let size = p.size;
-    let n = form_totals(out, size, totals.passed, totals.refused, session.stopped);
+    let n = form_totals(out, size, totals.passed, totals.refused, head.stopped);
     write_all(&out[..size + n]);
 }
 

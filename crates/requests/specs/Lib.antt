@@ -1,3 +1,2 @@
-pub mod Ids
 pub mod Requests
 pub mod Laws

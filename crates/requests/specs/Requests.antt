@@ -1,26 +1,29 @@
--- The table of 96 places for requests: what is kept of one, what is looked for, and which requests end.
+-- The table of 96 places for requests: what a place holds, what is looked for, taking and freeing places.
 -- Assumes nothing: these are definitions.
-use Prim.Native.Nat.{ℕ}
+use Prim.Native.Nat.{ℕ, zero, suc}
+use mathlib.Core.Path.{_≡_}
 use mathlib.Core.Bool.{Bool, true, false, cond, not, _&&_, _||_}
-use mathlib.Core.List.{List}
+use mathlib.Core.List.{List, [], _∷_, _++_}
 use mathlib.Core.Option.{Option, none, some}
-use lib.ListN.{getD, set, replicate}
-use lib.Dec.{eqb}
+use lib.ListN.{getD, replicate}
+use lib.Dec.{eqb, leb, ltb}
 use Rattle.device.specs.declared.Rows.{Rows}
 use Rattle.device.specs.declared.Scope.{Scope}
 use Rattle.device.specs.Device.{touched}
-use Rattle.scan.specs.Scan.{firstAt, eachAt}
+use Rattle.scan.specs.Scan.{firstAt, exists, tabulated, putAt}
 use Rattle.requests.specs.declared.Request.{Request}
-use Rattle.requests.specs.declared.Place.{Place}
+use Rattle.requests.specs.declared.Slot.{Slot}
 use Rattle.requests.specs.declared.Requests.{Requests}
 use Rattle.requests.specs.declared.Answers.{Answers}
-use Rattle.requests.specs.declared.Query.{Query}
-use Rattle.requests.specs.declared.Query.the-variants.{Free, Id, Settling, Answered}
 use Rattle.requests.specs.declared.Found.{Found}
 use Rattle.requests.specs.declared.Found.the-variants.{At, Nowhere}
-use Rattle.requests.specs.Ids.{distinct, liveIds}
 
 -- ---- places
+
+-- a place: whether a request waits there, and which
+pub record Place : Type 0 where
+  pub live : Bool
+  pub request : Request
 
 -- no request: "0 for what the kind lacks"
 abbrev pub noRequest : Request
@@ -33,9 +36,35 @@ freePlace = record { live = false; request = noRequest }
 abbrev pub taken : Request → Place
 taken r = record { live = true; request = r }
 
+-- what a slot keeps of a request besides its id and kind
+abbrev pub freeSlot : Slot
+freeSlot = record { length = 0; target = 0 }
+
+abbrev pub slotOf : Request → Slot
+slotOf r = record { length = r .length; target = r .target }
+
 -- "a table of 96 places for requests, all free"
 unfoldable pub freshRequests : Requests
-freshRequests = record { places = replicate 96 freePlace }
+freshRequests = record { used = 0; live = replicate 96 false; kinds = replicate 96 0; ids = replicate 96 0; slots = replicate 96 freeSlot }
+
+-- live places lie below this
+abbrev pub usedOf : Requests → ℕ
+usedOf t = cond (leb (t .used) 96) (t .used) 96
+
+abbrev pub isLive : Requests → ℕ → Bool
+isLive t i = ltb i (usedOf t) && getD (t .live) i false
+
+abbrev pub requestAt : Requests → ℕ → Request
+requestAt t i =
+    record { id = getD (t .ids) i 0; kind = getD (t .kinds) i 0; target = getD (t .slots) i freeSlot .target; length = getD (t .slots) i freeSlot .length }
+
+-- the place at i, a free one past the last
+unfoldable pub placeAt : Requests → ℕ → Place
+placeAt t i = cond (isLive t i) (taken (requestAt t i)) freePlace
+
+-- the 96 places
+unfoldable pub placesOf : Requests → List Place
+placesOf t = tabulated (placeAt t) 0 96
 
 -- ---- what is looked for
 
@@ -51,6 +80,15 @@ abbrev pub answers : Request → Answers → Request → Bool
 answers reply a q =
     eqb (q .id) (reply .id) && (eqb (q .kind) (a .first) || eqb (q .kind) (a .second)) && (not (a .targeted) || eqb (q .target) (reply .target))
 
+pub data Query : Type 0 where
+  Free : Query
+  -- a live request with this id
+  Id : ℕ → Query
+  -- a live set configuration or set alt
+  Settling : Query
+  -- a live request that this reply answers
+  Answered : Request → Answers → Query
+
 abbrev pub meets : Query → Place → Bool
 meets Free p = not (p .live)
 meets (Id n) p = p .live && eqb (p .request .id) n
@@ -63,7 +101,11 @@ hasId n p = meets (Id n) p
 
 -- the lowest place that meets it
 unfoldable pub lowest : Requests → Query → Option ℕ
-lowest t q = firstAt (meets q) 0 (t .places)
+lowest t q = firstAt (meets q) 0 (placesOf t)
+
+abbrev pub isSome : Option ℕ → Bool
+isSome none = false
+isSome (some i) = true
 
 abbrev pub foundAt : Found → Option ℕ
 foundAt (At i) = some i
@@ -71,23 +113,72 @@ foundAt Nowhere = none
 
 -- ---- taking and freeing
 
-abbrev pub placeAt : Requests → ℕ → Place
-placeAt t i = getD (t .places) i freePlace
+-- a request takes place i, of 96; nothing changes past the last
+unfoldable pub withRequest : Requests → ℕ → Request → Requests
+withRequest t i r =
+    record {
+      used = cond (ltb i (t .used) || leb 96 i) (t .used) (suc i);
+      live = putAt 96 false (t .live) i true;
+      kinds = putAt 96 0 (t .kinds) i (r .kind);
+      ids = putAt 96 0 (t .ids) i (r .id);
+      slots = putAt 96 freeSlot (t .slots) i (slotOf r);
+    }
 
-unfoldable pub withPlace : Requests → ℕ → Place → Requests
-withPlace t i p = record { places = set (t .places) i p }
+-- the lowest number of places, at most n, that has all the live ones
+unfoldable pub trimmed : List Bool → ℕ → ℕ
+trimmed live zero = 0
+trimmed live (suc n) = cond (getD live n false) (suc n) (trimmed live n)
+
+-- the places that a test names are freed
+unfoldable pub without : Requests → (ℕ → Bool) → Requests
+without t f =
+    record {
+      used = trimmed (tabulated (λ (i : ℕ). cond (f i) false (getD (t .live) i false)) 0 96) (usedOf t);
+      live = tabulated (λ (i : ℕ). cond (f i) false (getD (t .live) i false)) 0 96;
+      kinds = tabulated (λ (i : ℕ). cond (f i) 0 (getD (t .kinds) i 0)) 0 96;
+      ids = tabulated (λ (i : ℕ). cond (f i) 0 (getD (t .ids) i 0)) 0 96;
+      slots = tabulated (λ (i : ℕ). cond (f i) freeSlot (getD (t .slots) i freeSlot)) 0 96;
+    }
+
+-- "A passed reply frees the place."
+abbrev pub freed : Requests → ℕ → Requests
+freed t i = without t (λ (j : ℕ). eqb j i)
 
 -- "frees every data request (kind 100, 101 or 103)" of the rows in scope
 abbrev pub ends : Rows → Scope → Place → Bool
 ends rows s p = p .live && isData (p .request .kind) && touched rows s (record { 0 = p .request .target })
 
-abbrev pub keptOf : Rows → Scope → ℕ → Place → Place
-keptOf rows s i p = cond (ends rows s p) freePlace p
+-- place i is freed, and with it the data requests in scope
+unfoldable pub released : Requests → ℕ → Rows → Scope → Requests
+released t i rows s = without t (λ (j : ℕ). eqb j i || ends rows s (placeAt t j))
 
-unfoldable pub released : Requests → Rows → Scope → Requests
-released t rows s = record { places = eachAt (keptOf rows s) 0 (t .places) }
+-- "frees every place"
+unfoldable pub cleared : Requests → Requests
+cleared t = without t (λ (i : ℕ). placeAt t i .live)
 
 -- ---- 43: "two live requests with one id"
 
-unfoldable pub idsDiffer : List Place → Bool
-idsDiffer places = distinct (liveIds places)
+abbrev pub same : ℕ → ℕ → Bool
+same n m = eqb m n
+
+-- no number stands there twice
+unfoldable pub distinct : List ℕ → Bool
+distinct [] = true
+distinct (n ∷ ns) = not (exists (same n) ns) && distinct ns
+
+-- the ids of the live requests, in the order of their places
+unfoldable pub liveIds : List Place → List ℕ
+liveIds [] = []
+liveIds (p ∷ ps) = cond (p .live) (p .request .id ∷ []) [] ++ liveIds ps
+
+unfoldable pub idsDiffer : Requests → Bool
+idsDiffer t = distinct (liveIds (placesOf t))
+
+-- ---- a table of which only some columns are lent
+
+-- these are the columns that the searches go over
+pub record Lent (t : Requests) (n : ℕ) (flags : List Bool) (numbers names : List ℕ) : Type 0 where
+  pub used : t .used ≡ n
+  pub live : t .live ≡ flags
+  pub kinds : t .kinds ≡ numbers
+  pub ids : t .ids ≡ names

@@ -1,9 +1,13 @@
-// The table of 96 places for requests that wait for their reply, by value. Every search for a packet goes through `find`.
+// The table of 96 places for requests that wait for their reply. The columns that are searched are lent; the slots have the rest.
 ghost use mathlib.Core.Path.{_≡_};
-ghost use lib.ListN.{drop};
-ghost use Rattle.scan.specs.Scan.{exists};
-ghost use Rattle.requests.specs.Requests.{freePlace, freshRequests, isSetting, isData, answers, meets, hasId, lowest, foundAt, placeAt, withPlace, taken, ends, keptOf, released, idsDiffer};
-ghost use Rattle.requests.specs.Ids.{same, distinct};
+ghost use mathlib.Core.Bool.{false, cond, _&&_, _||_};
+ghost use Prim.Native.Nat.{ℕ, suc, _≤_};
+ghost use lib.ListN.{drop, getD};
+ghost use lib.Dec.{eqb, leb, ltb};
+ghost use Rattle.scan.specs.Scan.{exists, tabulated};
+ghost use Rattle.device.specs.Device.{touched};
+ghost use Rattle.requests.specs.declared.Requests.{Requests};
+ghost use Rattle.requests.specs.Requests.{freeSlot, freshRequests, isData, isSome, Free, Id, Settling, placeAt, lowest, foundAt, withRequest, trimmed, without, freed, ends, released, cleared, same, distinct, idsDiffer};
 use device::Rows;
 use device::Scope;
 use device::touches_endpoint;
@@ -18,13 +22,21 @@ pub struct Request {
     pub length: u32,
 }
 
-pub struct Place {
-    pub live: bool,
-    pub request: Request,
+// What a place keeps of a request besides its id and kind.
+pub struct Slot {
+    pub length: u32,
+    // the endpoint or interface byte
+    pub target: u8,
 }
 
+// All zero where a place is free.
 pub struct Requests {
-    pub places: [Place; 96],
+    // live places lie below it; over 96 it reads as 96
+    pub used: usize,
+    pub live: [bool; 96],
+    pub kinds: [u8; 96],
+    pub ids: [u64; 96],
+    pub slots: [Slot; 96],
 }
 
 // Which requests a reply answers: those of one of two kinds, and of the reply's own endpoint or interface where it has one.
@@ -34,34 +46,17 @@ pub struct Answers {
     pub targeted: bool,
 }
 
-// What a place is searched for.
-pub enum Query {
-    Free,
-    // a live request with this id
-    Id(u64),
-    // a live set configuration or set alt
-    Settling,
-    // a live request that this reply answers
-    Answered(Request, Answers),
-}
-
 pub enum Found {
     At(usize),
     Nowhere,
 }
 
-fn free_place() -> Place
-    ensures { λ r. ⌜ r ≡ freePlace ⌝ }
+fn free_slot() -> Slot
+    ensures { λ r. ⌜ r ≡ freeSlot ⌝ }
 {
-    let request = Request {
-        id: 0,
-        kind: 0,
-        target: 0,
+    Slot {
         length: 0,
-    };
-    Place {
-        live: false,
-        request,
+        target: 0,
     }
 }
 
@@ -69,52 +64,35 @@ fn free_place() -> Place
 pub fn fresh() -> Requests
     ensures { λ r. ⌜ r ≡ freshRequests ⌝ }
 {
-    let f = free_place();
-    let places = [f; 96];
-    Requests { places }
-}
-
-fn is_setting(kind: u8) -> bool
-    ensures { λ r. ⌜ r ≡ isSetting kind ⌝ }
-{
-    (kind == 6) | (kind == 9)
-}
-
-// A data request, by its kind.
-fn is_data(kind: u8) -> bool
-    ensures { λ r. ⌜ r ≡ isData kind ⌝ }
-{
-    (kind == 100) | (kind == 101) | (kind == 103)
-}
-
-fn is_answered(reply: Request, a: Answers, q: Request) -> bool
-    ensures { λ r. ⌜ r ≡ answers reply a q ⌝ }
-{
-    (q.id == reply.id)
-        & ((q.kind == a.first) | (q.kind == a.second))
-        & (!a.targeted | (q.target == reply.target))
-}
-
-fn meets_query(q: Query, p: Place) -> bool
-    ensures { λ r. ⌜ r ≡ meets q p ⌝ }
-{
-    let r = p.request;
-    match q {
-        Query::Free => !p.live,
-        Query::Id(n) => p.live & (r.id == n),
-        Query::Settling => p.live & is_setting(r.kind),
-        Query::Answered(reply, a) => p.live & is_answered(reply, a, r),
+    let f = free_slot();
+    let live: [bool; 96] = [false; 96];
+    let kinds: [u8; 96] = [0; 96];
+    let ids: [u64; 96] = [0; 96];
+    let slots = [f; 96];
+    Requests {
+        used: 0,
+        live,
+        kinds,
+        ids,
+        slots,
     }
 }
 
-// The lowest place that meets the query.
-pub fn find(t: Requests, q: Query) -> Found
-    ensures { λ r. ⌜ foundAt r ≡ lowest t q ⌝ }
+// The places that are gone over, at most 96.
+fn bound(used: usize) -> usize
+    ensures { λ r. ⌜ (r ≡ cond (leb used 96) used 96) × (r ≤ 96) ⌝ }
 {
+    if used <= 96 { used } else { 96 }
+}
+
+// The lowest place of a live request with this id.
+pub fn find_id<'a>(used: usize, live: &'a [bool; 96], ids: &'a [u64; 96], id: u64) -> Found
+    ensures { λ r. ⌜ ((t : Requests) → t .used ≡ used → t .live ≡ now (live .entry) → t .ids ≡ now (ids .entry) → foundAt r ≡ lowest t (Id id)) ⌝ }
+{
+    let n = bound(used);
     let mut i: usize = 0;
-    while i < 96 {
-        let p = t.places[i];
-        if meets_query(q, p) {
+    while i < n {
+        if live[i] & (ids[i] == id) {
             return Found::At(i);
         }
         i += 1;
@@ -122,70 +100,174 @@ pub fn find(t: Requests, q: Query) -> Found
     Found::Nowhere
 }
 
-// The place at i, a free one past the last.
-pub fn place_of(t: Requests, i: usize) -> Place
-    ensures { λ r. ⌜ r ≡ placeAt t i ⌝ }
+// The lowest free place.
+pub fn find_free(used: usize, live: &[bool; 96]) -> Found
+    ensures { λ r. ⌜ ((t : Requests) → t .used ≡ used → t .live ≡ now (live .entry) → foundAt r ≡ lowest t Free) ⌝ }
 {
-    if i < 96 { t.places[i] } else { free_place() }
+    let n = bound(used);
+    let mut i: usize = 0;
+    while i < n {
+        if !live[i] {
+            return Found::At(i);
+        }
+        i += 1;
+    }
+    if n < 96 { Found::At(n) } else { Found::Nowhere }
 }
 
-fn with_place(t: Requests, i: usize, p: Place) -> Requests
-    ensures { λ r. ⌜ r ≡ withPlace t i p ⌝ }
+// A set configuration or set alt waits.
+pub fn is_settling<'a>(used: usize, live: &'a [bool; 96], kinds: &'a [u8; 96]) -> bool
+    ensures { λ r. ⌜ ((t : Requests) → t .used ≡ used → t .live ≡ now (live .entry) → t .kinds ≡ now (kinds .entry) → r ≡ isSome (lowest t Settling)) ⌝ }
+{
+    let n = bound(used);
+    let mut i: usize = 0;
+    while i < n {
+        if live[i] & ((kinds[i] == 6) | (kinds[i] == 9)) {
+            return true;
+        }
+        i += 1;
+    }
+    false
+}
+
+// The kind of the request at place i, 0 past the last.
+pub fn kind_at(kinds: &[u8; 96], i: usize) -> u8
+    ensures { λ r. ⌜ r ≡ getD (now (kinds .entry)) i 0 ⌝ }
+{
+    let all = &kinds[..];
+    if i < all.len() { all[i] } else { 0 }
+}
+
+// The slot of place i, a free one past the last.
+pub fn slot_of(t: Requests, i: usize) -> Slot
+    ensures { λ r. ⌜ r ≡ getD (t .slots) i freeSlot ⌝ }
+{
+    if i < 96 { t.slots[i] } else { free_slot() }
+}
+
+// What the live places lie below once place i is taken.
+pub fn used_with(used: usize, i: usize) -> usize
+    ensures { λ r. ⌜ r ≡ cond (ltb i used || leb 96 i) used (suc i) ⌝ }
+{
+    if (i < used) | (96 <= i) { used } else { i + 1 }
+}
+
+// A request takes place i; nothing changes past the last.
+pub fn take(t: Requests, i: usize, r: Request) -> Requests
+    ensures { λ u. ⌜ u ≡ withRequest t i r ⌝ }
 {
     let mut u = t;
     if i < 96 {
-        u.places[i] = p;
+        u.used = used_with(t.used, i);
+        u.live[i] = true;
+        u.kinds[i] = r.kind;
+        u.ids[i] = r.id;
+        u.slots[i] = Slot {
+            length: r.length,
+            target: r.target,
+        };
     }
     u
 }
 
-// Place i is taken by this request; nothing changes past the last.
-pub fn take(t: Requests, i: usize, r: Request) -> Requests
-    ensures { λ u. ⌜ u ≡ withPlace t i (taken r) ⌝ }
+// What the live places lie below, where they lie below `used`.
+pub fn trim(used: usize, live: &[bool; 96]) -> usize
+    ensures { λ r. ⌜ r ≡ trimmed (now (live .entry)) (cond (leb used 96) used 96) ⌝ }
 {
-    let p = Place {
-        live: true,
-        request: r,
-    };
-    with_place(t, i, p)
+    let mut n = bound(used);
+    while 0 < n {
+        if live[n - 1] {
+            return n;
+        }
+        n -= 1;
+    }
+    0
 }
 
 // Place i is free.
 pub fn free(t: Requests, i: usize) -> Requests
-    ensures { λ r. ⌜ r ≡ withPlace t i freePlace ⌝ }
-{
-    with_place(t, i, free_place())
-}
-
-fn has_ended(rows: Rows, s: Scope, p: Place) -> bool
-    ensures { λ r. ⌜ r ≡ ends rows s p ⌝ }
-{
-    let q = p.request;
-    p.live & is_data(q.kind) & touches_endpoint(rows, s, Endpoint(q.target))
-}
-
-fn kept(rows: Rows, s: Scope, p: Place) -> Place
-    ensures { λ r. ⌜ r ≡ keptOf rows s 0 p ⌝ }
-{
-    if has_ended(rows, s, p) {
-        free_place()
-    } else {
-        p
-    }
-}
-
-// The data requests on the rows in scope are freed.
-pub fn release(t: Requests, rows: Rows, s: Scope) -> Requests
-    ensures { λ r. ⌜ r ≡ released t rows s ⌝ }
+    ensures { λ r. ⌜ r ≡ freed t i ⌝ }
 {
     let mut u = t;
+    if i < 96 {
+        u.live[i] = false;
+        u.kinds[i] = 0;
+        u.ids[i] = 0;
+        u.slots[i] = free_slot();
+    }
+    u.used = trim(t.used, &u.live);
+    u
+}
+
+// These places are free.
+fn free_these(t: Requests, these: [bool; 96]) -> Requests
+    ensures { λ r. ⌜ r ≡ without t (λ (j : ℕ). getD these j false) ⌝ }
+{
+    let mut u = t;
+    let f = free_slot();
     let mut i: usize = 0;
     while i < 96 {
-        let p = u.places[i];
-        u.places[i] = kept(rows, s, p);
+        if these[i] {
+            u.live[i] = false;
+            u.kinds[i] = 0;
+            u.ids[i] = 0;
+            u.slots[i] = f;
+        }
         i += 1;
     }
+    u.used = trim(t.used, &u.live);
     u
+}
+
+// A data request, by its kind, on the rows in scope.
+fn is_ending(rows: Rows, s: Scope, kind: u8, target: u8) -> bool
+    ensures { λ r. ⌜ r ≡ (isData kind && touched rows s (record { 0 = target })) ⌝ }
+{
+    ((kind == 100) | (kind == 101) | (kind == 103))
+        & touches_endpoint(&rows.interfaces, s, Endpoint(target))
+}
+
+// Place i, and the places of the data requests on the rows in scope.
+fn ending(t: Requests, i: usize, rows: Rows, s: Scope) -> [bool; 96]
+    ensures { λ r. ⌜ r ≡ tabulated (λ (j : ℕ). eqb j i || ends rows s (placeAt t j)) 0 96 ⌝ }
+{
+    let n = bound(t.used);
+    let mut these: [bool; 96] = [false; 96];
+    let mut k: usize = 0;
+    while k < 96 {
+        let slot = t.slots[k];
+        these[k] = (k == i) | ((k < n) & t.live[k] & is_ending(rows, s, t.kinds[k], slot.target));
+        k += 1;
+    }
+    these
+}
+
+// Place i is free, and so are the places of the data requests on the rows in scope.
+pub fn release(t: Requests, i: usize, rows: Rows, s: Scope) -> Requests
+    ensures { λ r. ⌜ r ≡ released t i rows s ⌝ }
+{
+    free_these(t, ending(t, i, rows, s))
+}
+
+// The live places.
+fn living(t: Requests) -> [bool; 96]
+    ensures { λ r. ⌜ r ≡ tabulated (λ (j : ℕ). placeAt t j .live) 0 96 ⌝ }
+{
+    let n = bound(t.used);
+    let mut these: [bool; 96] = [false; 96];
+    let mut k: usize = 0;
+    while k < 96 {
+        these[k] = (k < n) & t.live[k];
+        k += 1;
+    }
+    these
+}
+
+// Every place is free.
+pub fn clear(t: Requests) -> Requests
+    ensures { λ r. ⌜ r ≡ cleared t ⌝ }
+{
+    free_these(t, living(t))
 }
 
 // One of these numbers, from a place on, is n.
@@ -217,20 +299,22 @@ fn all_differ(ids: &[u64]) -> bool
 }
 
 // No two live requests have one id. The ids are gathered first: few requests live at a time.
-pub fn ids_differ(t: Requests) -> bool
-    ensures { λ r. ⌜ r ≡ idsDiffer (t .places) ⌝ }
+pub fn ids_differ<'a>(used: usize, live: &'a [bool; 96], ids: &'a [u64; 96]) -> bool
+    ensures { λ r. ⌜ ((t : Requests) → t .used ≡ used → t .live ≡ now (live .entry) → t .ids ≡ now (ids .entry) → r ≡ idsDiffer t) ⌝ }
 {
-    let mut ids: [u64; 96] = [0; 96];
-    let mut n: usize = 0;
+    let n = bound(used);
+    if n < 2 {
+        return true;
+    }
+    let mut gathered: [u64; 96] = [0; 96];
+    let mut k: usize = 0;
     let mut i: usize = 0;
-    while i < 96 {
-        let p = t.places[i];
-        if p.live {
-            let q = p.request;
-            ids[n] = q.id;
-            n += 1;
+    while i < n {
+        if live[i] {
+            gathered[k] = ids[i];
+            k += 1;
         }
         i += 1;
     }
-    all_differ(&ids[..n])
+    all_differ(&gathered[..k])
 }

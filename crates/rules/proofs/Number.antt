@@ -1,15 +1,18 @@
--- A packet's number, from the facts that the code has of it: `wireNumber` of its content is `numberBy` of the facts (`number`).
+-- A packet's number, from the facts that the code has of it: `wireNumber` of its content is `numberBy` of the facts (`number`), with fewer tests where
+-- data alone follows the fields (`data-number`).
 -- Both are `inOrder` of five tests, and `Shows` makes each test of the content that of the facts. Which field is bad the facts say only where the
 -- table is whole; where it is not, 23 holds, and 24 and 13 behind it are not asked.
 -- Assumes nothing.
-use Prim.Native.Nat.{ℕ, _-_, _^_, _<_}
-use native.Mathlib.Nat.{add-zero}
+use Prim.Native.Nat.{ℕ, _-_, _^_, _≤_, _<_}
+use native.Mathlib.Nat.{add-zero, sub-zero}
+use native.Mathlib.Omega.{arith}
 use mathlib.Core.Path.{_≡_, refl, sym, ap, _∙_}
 use mathlib.Core.Bool.{Bool, true, false, cond, not, _&&_, _||_}
 use mathlib.Core.List.{List}
 use mathlib.Core.Option.{Option, some}
 use lib.ListN.{length, drop, length-drop}
-use lib.Dec.{eqb, leb}
+use lib.Dec.{eqb, leb, leb·zero}
+use borrow.Author.Tests.{ne-eqb}
 use Rattle.number.specs.Little.{le}
 use Rattle.number.specs.Bits.{hasBit}
 use Rattle.number.specs.Laws.{le-drop}
@@ -28,13 +31,20 @@ use Rattle.rules.specs.Facts.{Shows, mayFollow}
 use Rattle.rules.proofs.Place.{none-bad}
 use Rattle.rules.proofs.Words.{only-words}
 
--- the number by the facts, the packet's part of the body and the id
+-- the number by the slot, the id and the facts, where the size and a hello's words are judged
+abbrev numberWhere : Link → ℕ → ℕ → Facts → Bool → Bool → ℕ
+numberWhere l id slot f sized alone =
+    inOrder (not (sends (kindAt slot .sender) (l .sender)))
+    (not (shared (sharedSet l) (kindAt slot .needs)) || f .surplus || (not (eqb slot 0) && not (hasBit (sharedSet l) 5) && leb 4294967296 id))
+    (not sized)
+    (not (eqb (f .bad) 65536))
+    alone
+
+-- and they are judged by the packet's part of the body
 abbrev numberBy : Link → ℕ → Facts → List ℕ → ℕ
 numberBy l id f rows =
-    inOrder (not (sends (kindAt (f .slot) .sender) (l .sender)))
-    (not (shared (sharedSet l) (kindAt (f .slot) .needs)) || f .surplus || (not (eqb (f .slot) 0) && not (hasBit (sharedSet l) 5) && leb 4294967296 id))
-    (not (leb (f .table) (length rows) && mayFollow (f .slot) (f .payload) (length rows - f .table)))
-    (not (eqb (f .bad) 65536))
+    numberWhere l id (f .slot) f
+    (leb (f .table) (length rows) && mayFollow (f .slot) (f .payload) (length rows - f .table))
     (eqb (f .slot) 0 && (hasBit (le 4 rows (f .table)) 0 && not (hasBit (le 4 rows (f .table)) 4)))
 
 -- test by test; where the table is not whole (`go false`), 23 holds and the tests behind it do not matter
@@ -101,3 +111,16 @@ number l id p body f small s = ap (λ (o : Option Kind). byKind l o q) known ∙
         (λ i. inOrder (not (sends (k .sender) (l .sender))) (not (shared caps (k .needs)) || s .surplus i || wide i) (not (sized i))
         (not (isNone (bad (l .sender) caps k q))) (streamsAlone (k .tail) (q .rest)))
         ∙ rw t
+
+-- from slot 28 on there is neither a hello nor a filter, and without a table the part is the data
+pub data-number : (l : Link) (id : ℕ) (p : Packet) (body : List ℕ) (f : Facts) {slot : ℕ} → id < 256 ^ 8 → f .slot ≡ slot → 28 ≤ slot → f .table ≡ 0
+    → Shows (l .sender) (sharedSet l) id p body f
+    → wireNumber l (contentOf (sharedSet l) id p body) ≡ numberWhere l id slot f (eqb (length (inPart (f .rest) body)) (f .payload)) false
+data-number l id p body f {slot} small e h t s =
+    let rows : List ℕ = inPart (f .rest) body in
+    let no-hello : eqb (f .slot) 0 ≡ false = ne-eqb (f .slot) 0 (λ z. omega arith) in
+    let no-filter : eqb (f .slot) 23 ≡ false = ne-eqb (f .slot) 23 (λ z. omega arith) in
+    let sized : (leb (f .table) (length rows) && mayFollow (f .slot) (f .payload) (length rows - f .table)) ≡ eqb (length rows) (f .payload) =
+    simp (t, no-hello, no-filter, leb·zero, sub-zero) in
+    let alone : (eqb (f .slot) 0 && (hasBit (le 4 rows (f .table)) 0 && not (hasBit (le 4 rows (f .table)) 4))) ≡ false = simp no-hello in
+    number l id p body f small s ∙ (λ i. numberWhere l id (e i) f (sized i) (alone i))

@@ -1,13 +1,15 @@
 // The wire checks of one packet: what each kind's rules say of its fields, and the number.
 ghost use mathlib.Core.Path.{_≡_};
 ghost use mathlib.Core.Bool.{cond, not, _&&_, _||_, true, false};
-ghost use Prim.Native.Nat.{_+_, _≤_, _/_};
+ghost use Prim.Native.Nat.{ℕ, _+_, _≤_, _/_};
 ghost use lib.ListN.{length};
 ghost use lib.Dec.{leb, eqb};
 ghost use Rattle.number.specs.Little.{le};
 ghost use Rattle.number.specs.Bits.{hasBit};
 ghost use Rattle.header.specs.Link.{sharedSet};
 ghost use Rattle.kinds.specs.Number.{isGuest, onward, addressOk, zeroAt, inOrder, wireNumber};
+ghost use Rattle.packet.specs.declared.Packet.{Packet};
+ghost use Rattle.packet.specs.declared.Packet.the-variants.{Control, Bulk, Iso, Interrupt, BufferedBulk};
 ghost use Rattle.packet.specs.Packet.{contentOf};
 ghost use Rattle.rules.specs.Facts.{Shows, factsOf, isGiven, typePlace, mayFollow, noId, typeOk, helloFacts, connectFacts, endpointFacts, filterFacts, controlFacts, bulkFacts, isoFacts, interruptFacts, bufferedFacts};
 use endpoint::Endpoint;
@@ -509,6 +511,125 @@ pub fn in_order(missent: bool, unshared: bool, missized: bool, broken: bool, alo
         return 24;
     }
     if alone { 13 } else { 0 }
+}
+
+// The number of any packet that has these facts, where data alone follows the fields: it is no hello and has no table.
+fn data_number(l: Link, slot: usize, id: u64, f: Facts, body: &[u8]) -> u8
+    requires { ⌜ (f .slot ≡ slot) × (28 ≤ slot) × (f .table ≡ 0) ⌝ }
+    ensures { λ r. ⌜ ((p : Packet) → Shows (l .sender) (sharedSet l) id p (now (body .entry)) f → r ≡ wireNumber l (contentOf (sharedSet l) id p (now (body .entry)))) ⌝ }
+{
+    let from = l.sender;
+    let caps = shared_set(l);
+    let rest = f.rest;
+    in_order(
+        !may_send(slot, from),
+        !is_shared(slot, caps) | f.surplus | is_wide(slot, caps, id),
+        part_of(body, rest).len() != f.payload as usize,
+        f.bad != 65536,
+        false,
+    )
+}
+
+// What `wire_number` says of each kind with data, by the fields that its rules look at.
+pub fn control_number(
+    l: Link,
+    id: u64,
+    endpoint: Endpoint,
+    requesttype: u8,
+    status: u8,
+    length: u16,
+    rest: Part,
+    body: &[u8],
+) -> u8
+    ensures { λ r. ⌜ ((request value index : ℕ) → r ≡ wireNumber l (contentOf (sharedSet l) id (Control endpoint request requesttype status value index length rest) (now (body .entry)))) ⌝ }
+{
+    let from = l.sender;
+    data_number(
+        l,
+        28,
+        id,
+        control(from, endpoint, requesttype, status, length, rest),
+        body,
+    )
+}
+
+pub fn bulk_number(
+    l: Link,
+    id: u64,
+    endpoint: Endpoint,
+    status: u8,
+    length: u32,
+    stream: u32,
+    rest: Part,
+    body: &[u8],
+) -> u8
+    ensures { λ r. ⌜ r ≡ wireNumber l (contentOf (sharedSet l) id (Bulk endpoint status length stream rest) (now (body .entry))) ⌝ }
+{
+    let from = l.sender;
+    data_number(
+        l,
+        29,
+        id,
+        bulk(from, shared_set(l), endpoint, status, length, stream, rest),
+        body,
+    )
+}
+
+pub fn iso_number(
+    l: Link,
+    id: u64,
+    endpoint: Endpoint,
+    status: u8,
+    length: u16,
+    rest: Part,
+    body: &[u8],
+) -> u8
+    ensures { λ r. ⌜ r ≡ wireNumber l (contentOf (sharedSet l) id (Iso endpoint status length rest) (now (body .entry))) ⌝ }
+{
+    let from = l.sender;
+    data_number(l, 30, id, iso(from, endpoint, status, length, rest), body)
+}
+
+pub fn interrupt_number(
+    l: Link,
+    id: u64,
+    endpoint: Endpoint,
+    status: u8,
+    length: u16,
+    rest: Part,
+    body: &[u8],
+) -> u8
+    ensures { λ r. ⌜ r ≡ wireNumber l (contentOf (sharedSet l) id (Interrupt endpoint status length rest) (now (body .entry))) ⌝ }
+{
+    let from = l.sender;
+    data_number(
+        l,
+        31,
+        id,
+        interrupt(from, endpoint, status, length, rest),
+        body,
+    )
+}
+
+pub fn buffered_number(
+    l: Link,
+    id: u64,
+    length: u32,
+    endpoint: Endpoint,
+    status: u8,
+    rest: Part,
+    body: &[u8],
+) -> u8
+    ensures { λ r. ⌜ ((stream : ℕ) → r ≡ wireNumber l (contentOf (sharedSet l) id (BufferedBulk stream length endpoint status rest) (now (body .entry)))) ⌝ }
+{
+    let from = l.sender;
+    data_number(
+        l,
+        32,
+        id,
+        buffered_bulk(from, length, endpoint, status, rest),
+        body,
+    )
 }
 
 // The wire checks 21 to 24 and 13 of a packet with its body, for reader and writer alike; a `Packet` is of a known kind, so 20 is not among them.

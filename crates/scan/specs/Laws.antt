@@ -1,22 +1,22 @@
 -- What a search finds and what a change of one element or of each leaves, in relations: `first-found`, `first-lowest`, `first-absent`,
--- `exists-at`, `any-absent`; `getD-set`, `set-keeps`; `each-at`, `each-keeps`.
+-- `exists-at`, `any-absent`; `getD-set`, `set-keeps`; `each-at`, `each-keeps`; and what a tabulated list has at each index: `tabulated-at`.
 -- By induction over the list: the test of the first element decides a step, and the index goes up by one with each element. A search that counts
 -- from k finds its index with k added (`first-from`).
 -- Assumes nothing.
-use Prim.Native.Nat.{ℕ, zero, suc, _+_, _<_}
+use Prim.Native.Nat.{ℕ, zero, suc, _+_, _≤_, _<_}
 use mathlib.Core.Path.{_≡_, refl, sym, ap, _∙_}
 use mathlib.Core.Bool.{Bool, true, false, cond, true≢false, or-true}
 use mathlib.Core.List.{List, [], _∷_}
 use mathlib.Core.Option.{Option, none, some, Option·some-injective, Option·none-ne-some, Option·some-ne-none}
 use native.Mathlib.Nat.{add-zero, zero-add, add-suc, suc-add}
 use native.Mathlib.Omega.{arith}
-use lib.ListN.{length, getD, set}
-use lib.Seq.{getD-set-same, getD-set-other}
-use lib.Dec.{eqb}
-use borrow.Author.Tests.{eqb-true, eqb-false}
+use lib.ListN.{length, getD, set, length-set, List·getD-eq-default}
+use lib.Seq.{getD-set-same, getD-set-other, ext-getD}
+use lib.Dec.{eqb, ltb}
+use borrow.Author.Tests.{eqb-true, eqb-false, ltb-true, ltb-false}
 use borrow.Table.Steps.{cases}
 use Rattle.number.specs.Logic.{or-parts}
-use Rattle.scan.specs.Scan.{firstAt, exists, anyAt, eachAt}
+use Rattle.scan.specs.Scan.{firstAt, exists, anyAt, eachAt, tabulated, putAt}
 use Rattle.scan.specs.Loop.{upTo, upto-at, upto-more}
 
 -- ---- the first that passes
@@ -77,6 +77,22 @@ module _ {A : Type 0} (p : A → Bool) where
         go : (o : Option ℕ) → firstAt p 0 l ≡ o → (i : ℕ) × (firstAt p 0 l ≡ some i)
         go none q = absurd (true≢false (sym e ∙ first-absent d q j h))
         go (some i) q = (i, q)
+
+    -- the first that passes is the one that is found
+    pub first-when : (i : ℕ) (d : A) → i < length l → p (getD l i d) ≡ true → ((j : ℕ) → j < i → p (getD l j d) ≡ false) → firstAt p 0 l ≡ some i
+    first-when i d h e lower = found ∙ ap some (cases (ltb k i) (λ b. absurd (below (ltb-true k i b))) (λ b. cases (ltb i k) (λ a. absurd (above (ltb-true i k a))) (λ a. omega (arith, ltb-false k i b, ltb-false i k a))))
+      where
+        k : ℕ
+        k = first-some d i h e .0
+
+        found : firstAt p 0 l ≡ some k
+        found = first-some d i h e .1
+
+        below : k < i → ⊥
+        below b = true≢false (sym (first-found k d found .1) ∙ lower k b)
+
+        above : i < k → ⊥
+        above a = true≢false (sym e ∙ first-lowest k d found i a)
 
   -- ---- one that passes
 
@@ -175,3 +191,38 @@ unfolding eachAt
 each-anywhere f d h [] i k = sym (h (i + k))
 each-anywhere f d h (x ∷ xs) i zero = rw (add-zero i)
 each-anywhere f d h (x ∷ xs) i (suc k) = rw (add-suc i k, ← suc-add i k) (each-anywhere f d h xs (suc i) k)
+
+-- ---- a tabulated list
+
+module _ {A : Type 0} (f : ℕ → A) where
+  pub tabulated-length : (i n : ℕ) → length (tabulated f i n) ≡ n
+  unfolding tabulated
+  tabulated-length i zero = refl
+  tabulated-length i (suc n) = ap suc (tabulated-length (suc i) n)
+
+  tabulated-from : (i n k : ℕ) (d : A) → k < n → getD (tabulated f i n) k d ≡ f (i + k)
+  unfolding tabulated
+  tabulated-from i zero k d h = absurd (omega arith)
+  tabulated-from i (suc n) zero d h = rw (add-zero i)
+  tabulated-from i (suc n) (suc k) d h = rw (add-suc i k, ← suc-add i k) (tabulated-from (suc i) n k d (omega arith))
+
+  pub tabulated-at : (n k : ℕ) (d : A) → k < n → getD (tabulated f 0 n) k d ≡ f k
+  tabulated-at n k d h = tabulated-from 0 n k d h ∙ ap f (zero-add k)
+
+  -- past the end there is nothing
+  pub tabulated-past : (n k : ℕ) (d : A) → n ≤ k → getD (tabulated f 0 n) k d ≡ d
+  tabulated-past n k d h = List·getD-eq-default (tabulated f 0 n) d {n = k} (rw (tabulated-length 0 n) h)
+
+  -- a list that has these elements is the tabulated one
+  pub tabulated-is : (l : List A) (n : ℕ) (d : A) → length l ≡ n → ((k : ℕ) → k < n → getD l k d ≡ f k) → l ≡ tabulated f 0 n
+  tabulated-is l n d e h =
+      ext-getD d l (tabulated f 0 n) (e ∙ sym (tabulated-length 0 n)) (λ k g. let m : k < n = rw (← e) g in h k m ∙ sym (tabulated-at n k d m))
+
+-- two functions that agree below n give one list
+pub tabulated-same : {A : Type 0} (f g : ℕ → A) (n : ℕ) (d : A) → ((k : ℕ) → k < n → f k ≡ g k) → tabulated f 0 n ≡ tabulated g 0 n
+tabulated-same f g n d h = tabulated-is g (tabulated f 0 n) n d (tabulated-length f 0 n) (λ k b. tabulated-at f n k d b ∙ h k b)
+
+-- a store into a list of n elements
+pub set-put : {A : Type 0} (n : ℕ) (d : A) (l : List A) (i : ℕ) (x : A) → length l ≡ n → set l i x ≡ putAt n d l i x
+set-put n d l i x e =
+    tabulated-is (λ (j : ℕ). cond (eqb j i) x (getD l j d)) (set l i x) n d (length-set l i x ∙ e) (λ k h. getD-set l i k x d (rw e h))

@@ -1,13 +1,16 @@
-// The session: its record, and the judge, which gives a packet its number and moves the session where the packet passes.
+// The session: its record, what 43 tests of it, and a change made to it.
 ghost use mathlib.Core.Path.{_≡_};
-ghost use Rattle.device.specs.Device.{closed};
-ghost use Rattle.requests.specs.Requests.{released};
-ghost use Rattle.session.specs.Session.{freshSession, linkOf, isShared, heldBad, unfit};
-ghost use Rattle.session.specs.Step.{keptHello, isHello, helloAfter, withRows, connected, introduced, acknowledged, streamBy, opens, scopeOf, replyRows, deviceAfter, asked, answered, requestsAfter, nextFor, judged};
-use checks::Match;
-use checks::match_of;
-use checks::number_for;
-use device::Device;
+ghost use mathlib.Core.Bool.{cond};
+ghost use lib.Dec.{ltb};
+ghost use Rattle.device.specs.declared.Rows.{Rows};
+ghost use Rattle.requests.specs.declared.Requests.{Requests};
+ghost use Rattle.requests.specs.Requests.{noRequest, withRequest, released};
+ghost use Rattle.session.specs.Edit.{Moves, wideEdit, Edits};
+ghost use Rattle.session.specs.Session.{freshSession, linkTo, sharedIn, heldIn, countAs, heldTo, heldBad, unfit};
+ghost use Rattle.session.specs.Step.{keptHello, helloTo, deviceTo, introduced, headAfter, streamBy, rowsAfter, requestsAfter, applied};
+use checks::Change;
+use device::Head;
+use device::Held;
 use device::Introduction;
 use device::Rows;
 use device::Scope;
@@ -15,76 +18,64 @@ use device::close;
 use device::has_control_rows;
 use device::replace;
 use device::set_stream;
-use device::start_device;
-use events::Class;
-use events::Event;
+use device::start_head;
+use device::start_rows;
+use device::stream_row;
 use events::Typed;
 use header::Hello;
 use header::Link;
 use header::Side;
 use header::has_passed;
 use header::shared_set;
-use kinds::is_guest;
 use number::has_bit;
-use requests::Found;
-use requests::Query;
 use requests::Request;
 use requests::Requests;
-use requests::find;
+use requests::clear;
 use requests::free;
 use requests::fresh;
 use requests::ids_differ;
 use requests::release;
 use requests::take;
 
-// The bytes of an unfinished packet that each direction holds.
-pub struct Held {
-    pub guest: usize,
-    pub host: usize,
-}
-
-// What belongs to the two ends and to the device stands apart from the requests that wait. The requests are most of the record and come
-// first in it: of two copies in a row the compiler then makes one.
+// The head is small and changes often; the rows of the device and the table of requests are columns, which are lent.
 pub struct Session {
+    pub head: Head,
+    pub rows: Rows,
     pub requests: Requests,
-    pub guest: Hello,
-    pub host: Hello,
-    pub stopped: bool,
-    pub held: Held,
-    pub device: Device,
 }
 
-// The session after a packet, and the packet's number: 0 where it passed.
-pub struct Judged {
-    pub session: Session,
-    pub number: u8,
+// What a change does in one row and one place, where that is all of it; a wide change does more and is left to `apply`.
+pub struct Edit {
+    // the row whose stream is set, 32 for none, and to what
+    pub row: usize,
+    pub opens: bool,
+    // the place that is set, 96 for none: to this request, or free
+    pub place: usize,
+    pub live: bool,
+    pub request: Request,
+    pub wide: bool,
 }
 
 // A session at its start: no hello has passed.
 pub fn fresh_session() -> Session
     ensures { λ r. ⌜ r ≡ freshSession ⌝ }
 {
-    let guest = Hello::Awaited;
-    let host = Hello::Awaited;
-    let held = Held { guest: 0, host: 0 };
-    let device = start_device(false);
+    let head = start_head();
+    let rows = start_rows();
     let requests = fresh();
     Session {
+        head,
+        rows,
         requests,
-        guest,
-        host,
-        stopped: false,
-        held,
-        device,
     }
 }
 
 // One direction of a session, as the wire checks see it.
-pub fn link_of(s: Session, from: Side) -> Link
-    ensures { λ r. ⌜ r ≡ linkOf from s ⌝ }
+pub fn link_to(h: Head, from: Side) -> Link
+    ensures { λ r. ⌜ r ≡ linkTo from h ⌝ }
 {
-    let guest = s.guest;
-    let host = s.host;
+    let guest = h.guest;
+    let host = h.host;
     Link {
         sender: from,
         guest,
@@ -92,10 +83,47 @@ pub fn link_of(s: Session, from: Side) -> Link
     }
 }
 
-fn is_shared(s: Session, bit: u32) -> bool
-    ensures { λ r. ⌜ r ≡ isShared s bit ⌝ }
+fn is_shared(h: Head, bit: u32) -> bool
+    ensures { λ r. ⌜ r ≡ sharedIn h bit ⌝ }
 {
-    has_bit(shared_set(link_of(s, Side::Guest)), bit)
+    has_bit(shared_set(link_to(h, Side::Guest)), bit)
+}
+
+// The bytes that a direction holds.
+pub fn held_in(h: Head, from: Side) -> usize
+    ensures { λ r. ⌜ r ≡ heldIn from h ⌝ }
+{
+    let held = h.held;
+    match from {
+        Side::Guest => held.guest,
+        Side::Host => held.host,
+    }
+}
+
+fn count_as(held: Held, from: Side, n: usize) -> Held
+    ensures { λ r. ⌜ r ≡ countAs from n held ⌝ }
+{
+    match from {
+        Side::Guest => Held {
+            guest: n,
+            host: held.host,
+        },
+        Side::Host => Held {
+            guest: held.guest,
+            host: n,
+        },
+    }
+}
+
+// The head with so many bytes held in a direction; stopped or not.
+pub fn hold_to(h: Head, from: Side, n: usize, stopped: bool) -> Head
+    ensures { λ r. ⌜ r ≡ heldTo from n stopped h ⌝ }
+{
+    let held = h.held;
+    let mut next = h;
+    next.held = count_as(held, from, n);
+    next.stopped = stopped;
+    next
 }
 
 fn is_held_bad(own: Hello, other: Hello, n: usize) -> bool
@@ -105,19 +133,22 @@ fn is_held_bad(own: Hello, other: Hello, n: usize) -> bool
 }
 
 // What 43 tests of a session: held counts, ids of live requests, rows 0 and 16.
-pub fn is_unfit(s: Session) -> bool
-    ensures { λ r. ⌜ r ≡ unfit s ⌝ }
+pub fn is_unfit<'a>(
+    h: Head,
+    types: &'a [u8; 32],
+    used: usize,
+    live: &'a [bool; 96],
+    ids: &'a [u64; 96],
+) -> bool
+    ensures { λ r. ⌜ ((d : Rows) (t : Requests) → d .types ≡ now (types .entry) → t .used ≡ used → t .live ≡ now (live .entry) → t .ids ≡ now (ids .entry) → r ≡ unfit (record { head = h; rows = d; requests = t })) ⌝ }
 {
-    let guest = s.guest;
-    let host = s.host;
-    let held = s.held;
-    let d = s.device;
-    let t = s.requests;
-    let rows = d.rows;
+    let guest = h.guest;
+    let host = h.host;
+    let held = h.held;
     is_held_bad(guest, host, held.guest)
         | is_held_bad(host, guest, held.host)
-        | !ids_differ(t)
-        | !has_control_rows(rows)
+        | !ids_differ(used, live, ids)
+        | !has_control_rows(types)
 }
 
 fn keep_hello(h: Hello, word: u32) -> Hello
@@ -129,75 +160,80 @@ fn keep_hello(h: Hello, word: u32) -> Hello
     }
 }
 
-fn is_hello(c: Class) -> bool
-    ensures { λ r. ⌜ r ≡ isHello c ⌝ }
+fn with_hello(h: Head, from: Side, word: u32) -> Head
+    ensures { λ r. ⌜ r ≡ helloTo h from word ⌝ }
 {
+    let guest = h.guest;
+    let host = h.host;
+    let held = h.held;
+    let introduction = h.introduction;
+    match from {
+        Side::Guest => Head {
+            guest: keep_hello(guest, word),
+            host,
+            stopped: h.stopped,
+            held,
+            present: h.present,
+            introduction,
+            owed: h.owed,
+        },
+        Side::Host => Head {
+            guest,
+            host: keep_hello(host, word),
+            stopped: h.stopped,
+            held,
+            present: h.present,
+            introduction,
+            owed: h.owed,
+        },
+    }
+}
+
+fn with_device(h: Head, present: bool, introduction: Introduction, owed: bool) -> Head
+    ensures { λ r. ⌜ r ≡ deviceTo h present introduction owed ⌝ }
+{
+    let guest = h.guest;
+    let host = h.host;
+    let held = h.held;
+    Head {
+        guest,
+        host,
+        stopped: h.stopped,
+        held,
+        present,
+        introduction,
+        owed,
+    }
+}
+
+// With no device the introduction goes on; with one it stays.
+fn introduce(h: Head, i: Introduction) -> Head
+    ensures { λ r. ⌜ r ≡ introduced i h ⌝ }
+{
+    if h.present {
+        return h;
+    }
+    with_device(h, h.present, i, h.owed)
+}
+
+// The head after a packet that passed.
+pub fn head_after(h: Head, from: Side, c: Change) -> Head
+    ensures { λ r. ⌜ r ≡ headAfter h from c ⌝ }
+{
+    let introduction = h.introduction;
     match c {
-        Class::Hello => true,
-        Class::Connect => false,
-        Class::Interfaces => false,
-        Class::Endpoints => false,
-        Class::Disconnect => false,
-        Class::Reset => false,
-        Class::Ack => false,
-        Class::Cancel => false,
-        Class::Filter => false,
-        Class::StartRequest => false,
-        Class::PlainRequest => false,
-        Class::StreamStatus => false,
-        Class::PlainReply => false,
-        Class::StreamData => false,
+        Change::Nothing => h,
+        Change::Hello(word) => with_hello(h, from, word),
+        Change::Connect => with_device(h, true, introduction, h.owed),
+        Change::Interfaces => introduce(h, Introduction::Two),
+        Change::Endpoints => introduce(h, Introduction::One),
+        Change::Disconnect => with_device(h, false, Introduction::Nothing, is_shared(h, 3)),
+        Change::Reset => h,
+        Change::Acknowledge => with_device(h, h.present, introduction, false),
+        Change::Take(_, _) => h,
+        Change::Start(_, _, _) => h,
+        Change::Answer(_, _, _, _) => h,
     }
-}
-
-// A side's hello after a packet: kept from its own.
-fn hello_after(c: Class, own: bool, word: u32, h: Hello) -> Hello
-    ensures { λ r. ⌜ r ≡ helloAfter c own word h ⌝ }
-{
-    if is_hello(c) & own {
-        keep_hello(h, word)
-    } else {
-        h
-    }
-}
-
-fn with_rows(d: Device, rows: Rows) -> Device
-    ensures { λ r. ⌜ r ≡ withRows d rows ⌝ }
-{
-    let mut out = d;
-    out.rows = rows;
-    out
-}
-
-fn connect(d: Device) -> Device
-    ensures { λ r. ⌜ r ≡ connected d ⌝ }
-{
-    let mut out = d;
-    out.present = true;
-    out
-}
-
-fn introduce(d: Device, i: Introduction) -> Device
-    ensures { λ r. ⌜ r ≡ introduced i d ⌝ }
-{
-    if d.present {
-        return d;
-    }
-    let rows = d.rows;
-    Device {
-        present: d.present,
-        introduction: i,
-        owed: d.owed,
-        rows,
-    }
-}
-
-fn acknowledge(d: Device) -> Device
-    ensures { λ r. ⌜ r ≡ acknowledged d ⌝ }
-{
-    let mut out = d;
-    out.owed = false;
-    out
 }
 
 fn stream_by(rows: Rows, typed: Typed, streaming: bool) -> Rows
@@ -205,186 +241,157 @@ fn stream_by(rows: Rows, typed: Typed, streaming: bool) -> Rows
 {
     match typed {
         Typed::Untyped => rows,
-        Typed::OfEndpoint(endpoint, ty) => set_stream(rows, endpoint, ty, streaming),
+        Typed::OfEndpoint(e, ty) => set_stream(rows, e, ty, streaming),
         Typed::OfMask(_, _) => rows,
     }
 }
 
-// A reply opens a stream where it answers a start with 0.
-fn is_opening(e: Event, m: Match) -> bool
-    ensures { λ r. ⌜ r ≡ opens e m ⌝ }
+// The rows after a packet that passed, which announces these rows if it is an endpoint table.
+fn rows_after(rows: Rows, c: Change, new: Rows) -> Rows
+    ensures { λ r. ⌜ r ≡ rowsAfter rows c new ⌝ }
 {
-    let a = e.answers;
-    match m {
-        Match::Unmatched => false,
-        Match::Matched(_, q) => (e.status == 0) & (q.kind == a.first),
-    }
-}
-
-// The rows whose data requests and streams a reply ends.
-fn scope_of(e: Event, m: Match) -> Scope
-    ensures { λ r. ⌜ r ≡ scopeOf e m ⌝ }
-{
-    let reply = e.request;
-    match m {
-        Match::Unmatched => Scope::Nowhere,
-        Match::Matched(_, q) => {
-            if e.status != 0 {
-                return Scope::Nowhere;
-            }
-            if q.kind == 6 {
-                return Scope::Everywhere;
-            }
-            if q.kind == 9 {
-                Scope::OfInterface(reply.target)
-            } else {
-                Scope::Nowhere
-            }
-        }
-    }
-}
-
-// Most replies end nothing: then no row is gone through.
-fn close_streams(rows: Rows, s: Scope) -> Rows
-    ensures { λ r. ⌜ r ≡ closed rows s ⌝ }
-{
-    match s {
-        Scope::Nowhere => rows,
-        Scope::Everywhere => close(rows, s),
-        Scope::OfInterface(_) => close(rows, s),
-    }
-}
-
-fn reply_rows(rows: Rows, e: Event, m: Match) -> Rows
-    ensures { λ r. ⌜ r ≡ replyRows rows e m ⌝ }
-{
-    let typed = e.typed;
-    let moved = stream_by(rows, typed, is_opening(e, m));
-    close_streams(moved, scope_of(e, m))
-}
-
-// The device after a packet that passed; a disconnect leaves an ack owed or not.
-fn device_after(d: Device, ack: bool, e: Event, m: Match) -> Device
-    ensures { λ r. ⌜ r ≡ deviceAfter (e .class) d ack e m ⌝ }
-{
-    let c = e.class;
-    let rows = d.rows;
-    let announced = e.rows;
-    let typed = e.typed;
     match c {
-        Class::Hello => d,
-        Class::Connect => connect(d),
-        Class::Interfaces => introduce(d, Introduction::Two),
-        Class::Endpoints => introduce(with_rows(d, replace(rows, announced)), Introduction::One),
-        Class::Disconnect => start_device(ack),
-        Class::Reset => with_rows(d, close(rows, Scope::Everywhere)),
-        Class::Ack => acknowledge(d),
-        Class::Cancel => d,
-        Class::Filter => d,
-        Class::StartRequest => with_rows(d, stream_by(rows, typed, true)),
-        Class::PlainRequest => d,
-        Class::StreamStatus => with_rows(d, reply_rows(rows, e, m)),
-        Class::PlainReply => with_rows(d, reply_rows(rows, e, m)),
-        Class::StreamData => d,
+        Change::Nothing => rows,
+        Change::Hello(_) => rows,
+        Change::Connect => rows,
+        Change::Interfaces => rows,
+        Change::Endpoints => replace(rows, new),
+        Change::Disconnect => start_rows(),
+        Change::Reset => close(rows, Scope::Everywhere),
+        Change::Acknowledge => rows,
+        Change::Take(_, _) => rows,
+        Change::Start(_, _, typed) => stream_by(rows, typed, true),
+        Change::Answer(_, typed, opens, scope) => close(stream_by(rows, typed, opens), scope),
     }
 }
 
-// A request takes the lowest free place.
-fn ask(t: Requests, r: Request) -> Requests
-    ensures { λ u. ⌜ u ≡ asked t r ⌝ }
+fn take_at(t: Requests, i: usize, q: Request) -> Requests
+    ensures { λ r. ⌜ r ≡ cond (ltb i 96) (withRequest t i q) t ⌝ }
 {
-    let f = find(t, Query::Free);
-    match f {
-        Found::At(i) => take(t, i, r),
-        Found::Nowhere => t,
-    }
+    if i < 96 { take(t, i, q) } else { t }
 }
 
-// Most replies end no request but their own: then no place is gone through.
-fn release_data(t: Requests, rows: Rows, s: Scope) -> Requests
-    ensures { λ r. ⌜ r ≡ released t rows s ⌝ }
+fn release_at(t: Requests, i: usize, rows: Rows, scope: Scope) -> Requests
+    ensures { λ r. ⌜ r ≡ cond (ltb i 96) (released t i rows scope) t ⌝ }
 {
-    match s {
-        Scope::Nowhere => t,
-        Scope::Everywhere => release(t, rows, s),
-        Scope::OfInterface(_) => release(t, rows, s),
-    }
-}
-
-// A reply frees the place of its request, and the data requests in its scope.
-fn answer(t: Requests, rows: Rows, e: Event, m: Match) -> Requests
-    ensures { λ r. ⌜ r ≡ answered t rows e m ⌝ }
-{
-    let s = scope_of(e, m);
-    match m {
-        Match::Unmatched => t,
-        Match::Matched(i, _) => release_data(free(t, i), rows, s),
+    if i < 96 {
+        match scope {
+            Scope::Nowhere => free(t, i),
+            Scope::Everywhere => release(t, i, rows, scope),
+            Scope::OfInterface(_) => release(t, i, rows, scope),
+        }
+    } else {
+        t
     }
 }
 
 // The requests after a packet that passed.
-fn requests_after(t: Requests, rows: Rows, e: Event, m: Match) -> Requests
-    ensures { λ r. ⌜ r ≡ requestsAfter (e .class) t rows e m ⌝ }
+fn requests_after(t: Requests, rows: Rows, c: Change) -> Requests
+    ensures { λ r. ⌜ r ≡ requestsAfter t rows c ⌝ }
 {
-    let c = e.class;
-    let q = e.request;
     match c {
-        Class::Hello => t,
-        Class::Connect => t,
-        Class::Interfaces => t,
-        Class::Endpoints => t,
-        Class::Disconnect => fresh(),
-        Class::Reset => fresh(),
-        Class::Ack => t,
-        Class::Cancel => t,
-        Class::Filter => t,
-        Class::StartRequest => ask(t, q),
-        Class::PlainRequest => ask(t, q),
-        Class::StreamStatus => answer(t, rows, e, m),
-        Class::PlainReply => answer(t, rows, e, m),
-        Class::StreamData => t,
+        Change::Nothing => t,
+        Change::Hello(_) => t,
+        Change::Connect => t,
+        Change::Interfaces => t,
+        Change::Endpoints => t,
+        Change::Disconnect => clear(t),
+        Change::Reset => clear(t),
+        Change::Acknowledge => t,
+        Change::Take(i, q) => take_at(t, i, q),
+        Change::Start(i, q, _) => take_at(t, i, q),
+        Change::Answer(i, _, _, scope) => release_at(t, i, rows, scope),
     }
 }
 
-// The session after a packet that passed.
-fn next_for(s: Session, e: Event, m: Match) -> Session
-    ensures { λ r. ⌜ r ≡ nextFor s e m ⌝ }
+// Makes a change to a session.
+pub fn apply(s: Session, from: Side, c: Change, new: Rows) -> Session
+    ensures { λ r. ⌜ r ≡ applied s from c new ⌝ }
 {
-    let c = e.class;
-    let from = e.sender;
-    let word = e.word;
-    let guest = s.guest;
-    let host = s.host;
-    let held = s.held;
-    let d = s.device;
-    let rows = d.rows;
+    let h = s.head;
+    let d = s.rows;
     let t = s.requests;
-    let from_guest = is_guest(from);
-    let next_guest = hello_after(c, from_guest, word, guest);
-    let next_host = hello_after(c, !from_guest, word, host);
-    let device = device_after(d, is_shared(s, 3), e, m);
-    let requests = requests_after(t, rows, e, m);
+    let head = head_after(h, from, c);
+    let rows = rows_after(d, c, new);
+    let requests = requests_after(t, d, c);
     Session {
+        head,
+        rows,
         requests,
-        guest: next_guest,
-        host: next_host,
-        stopped: s.stopped,
-        held,
-        device,
     }
 }
 
-// Judges a packet: a refused one leaves the session as it was.
-pub fn judge(s: Session, e: Event) -> Judged
-    ensures { λ r. ⌜ r ≡ judged s e ⌝ }
+// The row whose stream a packet moves, 32 for none.
+fn row_moved(types: &[u8; 32], typed: Typed) -> usize
+    ensures { λ r. ⌜ ((d : Rows) → d .types ≡ now (types .entry) → Moves d typed r) ⌝ }
 {
-    let t = s.requests;
-    let d = s.device;
-    let m = match_of(t, e);
-    let number = number_for(d, t, e, m);
-    if number == 0 {
-        let session = next_for(s, e, m);
-        return Judged { session, number };
+    match typed {
+        Typed::Untyped => 32,
+        Typed::OfEndpoint(e, ty) => stream_row(types, e, ty),
+        Typed::OfMask(_, _) => 32,
     }
-    Judged { session: s, number }
+}
+
+fn edit_with(
+    row: usize,
+    opens: bool,
+    place: usize,
+    live: bool,
+    request: Request,
+    wide: bool,
+) -> Edit
+    ensures { λ r. ⌜ r ≡ record { row = row; opens = opens; place = place; live = live; request = request; wide = wide } ⌝ }
+{
+    Edit {
+        row,
+        opens,
+        place,
+        live,
+        request,
+        wide,
+    }
+}
+
+fn no_request() -> Request
+    ensures { λ r. ⌜ r ≡ noRequest ⌝ }
+{
+    Request {
+        id: 0,
+        kind: 0,
+        target: 0,
+        length: 0,
+    }
+}
+
+// What is left to `apply`.
+fn wide_edit() -> Edit
+    ensures { λ r. ⌜ r ≡ wideEdit ⌝ }
+{
+    edit_with(32, false, 96, false, no_request(), true)
+}
+
+// A change as an edit.
+pub fn edit_of(types: &[u8; 32], c: Change) -> Edit
+    ensures { λ r. ⌜ ((d : Rows) → d .types ≡ now (types .entry) → Edits d c r) ⌝ }
+{
+    let none = no_request();
+    match c {
+        Change::Nothing => edit_with(32, false, 96, false, none, false),
+        Change::Hello(_) => wide_edit(),
+        Change::Connect => wide_edit(),
+        Change::Interfaces => wide_edit(),
+        Change::Endpoints => wide_edit(),
+        Change::Disconnect => wide_edit(),
+        Change::Reset => wide_edit(),
+        Change::Acknowledge => wide_edit(),
+        Change::Take(i, q) => edit_with(32, false, i, true, q, false),
+        Change::Start(i, q, typed) => edit_with(row_moved(types, typed), true, i, true, q, false),
+        Change::Answer(i, typed, opens, scope) => {
+            match scope {
+                Scope::Nowhere => edit_with(row_moved(types, typed), opens, i, false, none, false),
+                Scope::Everywhere => wide_edit(),
+                Scope::OfInterface(_) => wide_edit(),
+            }
+        }
+    }
 }

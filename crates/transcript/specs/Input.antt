@@ -65,7 +65,7 @@ linesOf (b ∷ input) = cond (eqb b 10) ([] ∷ linesOf input) (inFront b (lines
 
 -- "stopped is 0 or 1"
 abbrev pub totalsOf : Progress → List ℕ
-totalsOf p = totalsLine (p .totals .passed) (p .totals .refused) (p .session .stopped)
+totalsOf p = totalsLine (p .totals .passed) (p .totals .refused) (p .session .head .stopped)
 
 -- what is still to be printed: "totals follow"
 unfoldable pub outputFrom : Progress → List (List ℕ) → List ℕ

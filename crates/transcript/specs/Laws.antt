@@ -16,11 +16,12 @@ use Rattle.header.specs.declared.Side.{Side}
 use Rattle.header.specs.declared.Link.{Link}
 use Rattle.session.specs.declared.Session.{Session}
 use Rattle.session.specs.Session.{linkOf, unfit}
-use Rattle.roundtrip.specs.Cut.{Cut, more, bad, whole}
-use Rattle.roundtrip.specs.Told.{more-less, more-head}
-use Rattle.wire.specs.Wire.{usbredir, laws}
+use Rattle.frame.specs.Cut.{Cut, more, bad, whole}
+use Rattle.wire.specs.Told.{more-less, more-head}
+use Rattle.wire.specs.Usbredir.{usbredir, laws}
 use Rattle.frame.specs.Frame.{cutAt, bytesAt}
-use Rattle.gate.specs.Offer.{heldOf, heldBytes, isWaiting, heldWhole, barred, Outcome, unmoved, byCut, offerOf}
+use Rattle.gate.specs.Verdict.{heldOf}
+use Rattle.gate.specs.Offer.{heldBytes, isWaiting, heldWhole, barred, Outcome, unmoved, byCut, offerOf}
 use Rattle.gate.specs.Laws.{Ready, ready, held-few, whole-here, header-here}
 use Rattle.capture.specs.Laws.{answer-short}
 use Rattle.transcript.specs.Piece.{givesLine, lineAt, lineFor, usedBy, Report, called, offered, reportBy}
@@ -43,7 +44,7 @@ no-line false false false false e = absurd (true≢false e)
 module _ (from : Side) (s : Session) (hold piece : List ℕ) where
   barred-no-line : eqb (barred from s hold) 0 ≡ false → givesLine (barred from s hold) ≡ false
   unfolding barred
-  barred-no-line e = no-line (ltb (length hold) 32784) (unfit s || heldWhole from s hold) (s .stopped) (isWaiting (linkOf from s)) e
+  barred-no-line e = no-line (ltb (length hold) 32784) (unfit s || heldWhole from s hold) (s .head .stopped) (isWaiting (linkOf from s)) e
 
   module _ (r : Ready from s hold) where
     few : heldOf from s ≤ 32783

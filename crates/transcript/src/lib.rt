@@ -15,7 +15,7 @@ use header::Side;
 use header::read_header;
 use number::part;
 use session::Session;
-use session::link_of;
+use session::link_to;
 
 // The answers that have a line: passed, and refused.
 pub struct Totals {
@@ -98,7 +98,8 @@ fn report_call(r: Reported, from: Side, hold: &mut [u8], rest: &[u8], out: &mut 
             used: rest.len(),
         };
     }
-    let h = read_header(link_of(before, from), bytes_of(answer, rest, hold));
+    let head = before.head;
+    let h = read_header(link_to(head, from), bytes_of(answer, rest, hold));
     let line = form_answer(out, r.size, from, h.kind, h.length, h.id, answer.number);
     let totals = count(totals, answer.number);
     let size = saturating_add(r.size as u64, line as u64) as usize;

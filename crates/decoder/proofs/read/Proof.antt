@@ -1,11 +1,9 @@
--- `decoder::read` meets its contract: the steps of the code are those of `readOf` (`Told`), and the kinds stand in the table by their
--- numbers (`kinds/specs/Slots`).
+-- `decoder::read` meets its contract: the steps of the code before the body are those of `readOf`, and behind them the body is read (`Told`).
 -- Assumes nothing.
 use native.Mathlib.Omega.{arith}
 use denote.Ref.{now}
-use Rattle.decoder.proofs.Told.{small, short-refused, header-refused, length-refused, kind-unknown, kind-known}
-use Rattle.kinds.specs.Slots.{low, high, between, above}
 use borrow.Author.Needs.{needs}
+use Rattle.decoder.proofs.Told.{small, short-refused, header-refused, length-refused, body-read}
 use Rattle.decoder.proofs.read.Statement.{statement}
 use Rattle.decoder.proofs.read.Tie as tie
 
@@ -38,49 +36,22 @@ returns-3 c =
     let x = c .before .before .before .before .before .before .before .args in
     length-refused (x .l) (now (x .bytes)) (c .before .before .before .before .before .read-header .ensures) (c .before .before .before .if1 .left) (c .before .before .header-number .ensures) (c .before .if2 .left) (c .if3 .taken)
 
-sub-body : tie.Need-sub-body
-sub-body c = search needs
+sub-read-behind : tie.Need-sub-read-behind
+sub-read-behind c = search needs
 
-part-body-start : tie.Need-part-body-start
-part-body-start c = search needs
+part-read-behind-start : tie.Need-part-read-behind-start
+part-read-behind-start c = search needs
 
-part-body-end : tie.Need-part-body-end
-part-body-end c = search needs
+part-read-behind-end : tie.Need-part-read-behind-end
+part-read-behind-end c = search needs
 
-cast-read-kind : tie.Need-cast-read-kind
-cast-read-kind c = search needs
-
-read-kind-requires : tie.Need-read-kind-requires
-read-kind-requires c κs = search needs
-
-sub-read-kind : tie.Need-sub-read-kind
-sub-read-kind c = search needs
-
-cast-read-kind-2 : tie.Need-cast-read-kind-2
-cast-read-kind-2 c = search needs
-
-read-kind-requires-2 : tie.Need-read-kind-requires-2
-read-kind-requires-2 c κs = search needs
+read-behind-requires : tie.Need-read-behind-requires
+read-behind-requires c κs = search needs
 
 returns-4 : tie.Need-returns-4
 returns-4 c =
-    let x = c .before .before .before .before .before .before .before .before .before .before .args in
-    kind-known (x .l) (now (x .bytes)) (c .before .before .before .before .before .before .before .before .read-header .ensures) (c .before .before .before .before .before .before .if1 .left) (c .before .before .before .before .before .header-number .ensures) (c .before .before .before .before .if2 .left) (c .before .before .before .if3 .left) (omega arith) (low _ (omega arith)) (c .read-kind .ensures)
-
-returns-5 : tie.Need-returns-5
-returns-5 c =
-    let x = c .before .before .before .before .before .before .before .before .before .before .before .before .args in
-    kind-known (x .l) (now (x .bytes)) (c .before .before .before .before .before .before .before .before .before .before .read-header .ensures) (c .before .before .before .before .before .before .before .before .if1 .left) (c .before .before .before .before .before .before .before .header-number .ensures) (c .before .before .before .before .before .before .if2 .left) (c .before .before .before .before .before .if3 .left) (omega arith) (high _ (omega arith) (omega arith)) (c .read-kind2 .ensures)
-
-returns-6 : tie.Need-returns-6
-returns-6 c =
-    let x = c .before .before .before .before .before .before .before .before .before .before .args in
-    kind-unknown (x .l) (now (x .bytes)) (c .before .before .before .before .before .before .before .before .read-header .ensures) (c .before .before .before .before .before .before .if1 .left) (c .before .before .before .before .before .header-number .ensures) (c .before .before .before .before .if2 .left) (c .before .before .before .if3 .left) (between _ (omega arith) (omega arith))
-
-returns-7 : tie.Need-returns-7
-returns-7 c =
-    let x = c .before .before .before .before .before .before .before .before .before .before .before .args in
-    kind-unknown (x .l) (now (x .bytes)) (c .before .before .before .before .before .before .before .before .before .read-header .ensures) (c .before .before .before .before .before .before .before .if1 .left) (c .before .before .before .before .before .before .header-number .ensures) (c .before .before .before .before .before .if2 .left) (c .before .before .before .before .if3 .left) (above _ (omega arith))
+    let x = c .before .before .before .before .before .before .before .before .before .args in
+    body-read (x .l) (now (x .bytes)) (c .before .before .before .before .before .before .before .read-header .ensures) (c .before .before .before .before .before .if1 .left) (c .before .before .before .before .header-number .ensures) (c .before .before .before .if2 .left) (c .read-behind .result) (c .before .before .if3 .left) (c .read-behind .ensures)
 
 pub read-spec : {M : Type 1} → statement M
 read-spec =
@@ -93,15 +64,8 @@ read-spec =
     returns-2
     add-if3
     returns-3
-    sub-body
-    part-body-start
-    part-body-end
-    cast-read-kind
-    read-kind-requires
-    sub-read-kind
-    cast-read-kind-2
-    read-kind-requires-2
-    returns-4
-    returns-5
-    returns-6
-    returns-7)
+    sub-read-behind
+    part-read-behind-start
+    part-read-behind-end
+    read-behind-requires
+    returns-4)

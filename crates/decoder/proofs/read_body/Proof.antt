@@ -2,7 +2,7 @@
 -- Assumes nothing.
 use mathlib.Core.Path.{refl}
 use borrow.Author.Needs.{needs}
-use Rattle.decoder.proofs.EachKind.{reads-by, last, hello, connect, disconnect, reset, interface-table, endpoint-table, set-configuration, get-configuration, configuration-status, set-alt, get-alt, alt-status, start-iso, stop-iso, iso-status, start-interrupt, stop-interrupt, interrupt-status, alloc-streams, free-streams, streams-status, cancel, filter-reject, filter, disconnect-ack, start-bulk-receiving, stop-bulk-receiving, bulk-receiving-status, control, bulk, iso, interrupt, buffered-bulk}
+use Rattle.decoder.proofs.EachKind.{reads-by, last, hello, connect, disconnect, reset, interface-table, endpoint-table, set-configuration, get-configuration, configuration-status, set-alt, get-alt, alt-status, start-iso, stop-iso, iso-status, start-interrupt, stop-interrupt, interrupt-status, alloc-streams, free-streams, streams-status, cancel, filter-reject, filter, disconnect-ack, start-bulk-receiving, stop-bulk-receiving, bulk-receiving-status}
 use Rattle.decoder.proofs.read_body.Statement.{statement}
 use Rattle.decoder.proofs.read_body.Tie as tie
 
@@ -156,90 +156,6 @@ get8-requires-28 c κs = search needs
 get8-requires-29 : tie.Need-get8-requires-29
 get8-requires-29 c κs = search needs
 
-get8-requires-30 : tie.Need-get8-requires-30
-get8-requires-30 c κs = search needs
-
-get8-requires-31 : tie.Need-get8-requires-31
-get8-requires-31 c κs = search needs
-
-get8-requires-32 : tie.Need-get8-requires-32
-get8-requires-32 c κs = search needs
-
-get8-requires-33 : tie.Need-get8-requires-33
-get8-requires-33 c κs = search needs
-
-get16-requires-3 : tie.Need-get16-requires-3
-get16-requires-3 c κs = search needs
-
-get16-requires-4 : tie.Need-get16-requires-4
-get16-requires-4 c κs = search needs
-
-get16-requires-5 : tie.Need-get16-requires-5
-get16-requires-5 c κs = search needs
-
-after-requires-5 : tie.Need-after-requires-5
-after-requires-5 c κs = search needs
-
-get8-requires-34 : tie.Need-get8-requires-34
-get8-requires-34 c κs = search needs
-
-get8-requires-35 : tie.Need-get8-requires-35
-get8-requires-35 c κs = search needs
-
-bulk-count-requires : tie.Need-bulk-count-requires
-bulk-count-requires c κs = search needs
-
-get32-requires-11 : tie.Need-get32-requires-11
-get32-requires-11 c κs = search needs
-
-has-bit-requires-5 : tie.Need-has-bit-requires-5
-has-bit-requires-5 c κs = search needs
-
-choose-requires : tie.Need-choose-requires
-choose-requires c κs = search needs
-
-after-requires-6 : tie.Need-after-requires-6
-after-requires-6 c κs = search needs
-
-get8-requires-36 : tie.Need-get8-requires-36
-get8-requires-36 c κs = search needs
-
-get8-requires-37 : tie.Need-get8-requires-37
-get8-requires-37 c κs = search needs
-
-get16-requires-6 : tie.Need-get16-requires-6
-get16-requires-6 c κs = search needs
-
-after-requires-7 : tie.Need-after-requires-7
-after-requires-7 c κs = search needs
-
-get8-requires-38 : tie.Need-get8-requires-38
-get8-requires-38 c κs = search needs
-
-get8-requires-39 : tie.Need-get8-requires-39
-get8-requires-39 c κs = search needs
-
-get16-requires-7 : tie.Need-get16-requires-7
-get16-requires-7 c κs = search needs
-
-after-requires-8 : tie.Need-after-requires-8
-after-requires-8 c κs = search needs
-
-get32-requires-12 : tie.Need-get32-requires-12
-get32-requires-12 c κs = search needs
-
-get32-requires-13 : tie.Need-get32-requires-13
-get32-requires-13 c κs = search needs
-
-get8-requires-40 : tie.Need-get8-requires-40
-get8-requires-40 c κs = search needs
-
-get8-requires-41 : tie.Need-get8-requires-41
-get8-requires-41 c κs = search needs
-
-after-requires-9 : tie.Need-after-requires-9
-after-requires-9 c κs = search needs
-
 returns : tie.Need-returns
 returns c = reads-by (hello _ _) (c .before .before .before .pre) (c .before .match .keys1) (rw (c .after .ensures))
 
@@ -322,22 +238,7 @@ returns-27 : tie.Need-returns-27
 returns-27 c = reads-by (stop-bulk-receiving _ _) (c .before .before .before .before .pre) (c .before .before .match .keys27) (rw (c .get827 .ensures, c .before .get329 .ensures))
 
 returns-28 : tie.Need-returns-28
-returns-28 c = reads-by (bulk-receiving-status _ _) (c .before .before .before .before .before .pre) (c .before .before .before .match .keys28) (rw (c .get829 .ensures, c .before .get828 .ensures, c .before .before .get3210 .ensures))
-
-returns-29 : tie.Need-returns-29
-returns-29 c = reads-by (control _ _) (c .before .before .before .before .before .before .before .before .before .before .pre) (c .before .before .before .before .before .before .before .before .match .keys29) (rw (c .after5 .ensures, c .before .get165 .ensures, c .before .before .get164 .ensures, c .before .before .before .get163 .ensures, c .before .before .before .before .get833 .ensures, c .before .before .before .before .before .get832 .ensures, c .before .before .before .before .before .before .get831 .ensures, c .before .before .before .before .before .before .before .get830 .ensures))
-
-returns-30 : tie.Need-returns-30
-returns-30 c = reads-by (bulk _ _ (c .before .before .before .before .bulk-count .ensures .1)) (c .before .before .before .before .before .before .before .before .before .pre) (c .before .before .before .before .before .before .before .match .keys30) (rw (c .after6 .ensures, c .before .choose .ensures, c .before .before .has-bit5 .ensures, c .before .before .before .get3211 .ensures, c .before .before .before .before .bulk-count .ensures .0, c .before .before .before .before .before .get835 .ensures, c .before .before .before .before .before .before .get834 .ensures))
-
-returns-31 : tie.Need-returns-31
-returns-31 c = reads-by (iso _ _) (c .before .before .before .before .before .before .pre) (c .before .before .before .before .match .keys31) (rw (c .after7 .ensures, c .before .get166 .ensures, c .before .before .get837 .ensures, c .before .before .before .get836 .ensures))
-
-returns-32 : tie.Need-returns-32
-returns-32 c = reads-by (interrupt _ _) (c .before .before .before .before .before .before .pre) (c .before .before .before .before .match .keys32) (rw (c .after8 .ensures, c .before .get167 .ensures, c .before .before .get839 .ensures, c .before .before .before .get838 .ensures))
-
-returns-33 : tie.Need-returns-33
-returns-33 c = reads-by (buffered-bulk _ _) (c .before .before .before .before .before .before .before .pre) (last (c .before .before .before .before .before .before .before .pre .small) (c .before .before .before .before .before .match .rest)) (rw (c .after9 .ensures, c .before .get841 .ensures, c .before .before .get840 .ensures, c .before .before .before .get3213 .ensures, c .before .before .before .before .get3212 .ensures))
+returns-28 c = reads-by (bulk-receiving-status _ _) (c .before .before .before .before .before .pre) (last (c .before .before .before .before .before .pre .small) (c .before .before .before .match .rest)) (rw (c .get829 .ensures, c .before .get828 .ensures, c .before .before .get3210 .ensures))
 
 pub read-body-spec : {M : Type 1} → statement M
 read-body-spec =
@@ -393,34 +294,6 @@ read-body-spec =
     get32-requires-10
     get8-requires-28
     get8-requires-29
-    get8-requires-30
-    get8-requires-31
-    get8-requires-32
-    get8-requires-33
-    get16-requires-3
-    get16-requires-4
-    get16-requires-5
-    after-requires-5
-    get8-requires-34
-    get8-requires-35
-    bulk-count-requires
-    get32-requires-11
-    has-bit-requires-5
-    choose-requires
-    after-requires-6
-    get8-requires-36
-    get8-requires-37
-    get16-requires-6
-    after-requires-7
-    get8-requires-38
-    get8-requires-39
-    get16-requires-7
-    after-requires-8
-    get32-requires-12
-    get32-requires-13
-    get8-requires-40
-    get8-requires-41
-    after-requires-9
     returns
     returns-2
     returns-3
@@ -448,9 +321,4 @@ read-body-spec =
     returns-25
     returns-26
     returns-27
-    returns-28
-    returns-29
-    returns-30
-    returns-31
-    returns-32
-    returns-33)
+    returns-28)

@@ -21,7 +21,7 @@ returns-2 : tie.Need-returns-2
 returns-2 c = search needs
 
 returns-3 : tie.Need-returns-3
-returns-3 c = touches-apart _ _ _ _ (c .before .before .s .given .1)
+returns-3 c = touches-apart _ _ _ _ (c .before .s .given .1)
 
 pub is-touched-spec : {M : Type 1} → statement M
 is-touched-spec =

@@ -1,8 +1,8 @@
 -- `device::touches_endpoint` meets its contract, arm by arm: the row is the one that `row_of` finds, which is one of 32.
 -- Assumes nothing.
-use mathlib.Core.Path.{_∙_}
+use mathlib.Core.Path.{refl, _∙_}
 use borrow.Author.Needs.{needs}
-use Rattle.device.proofs.Laws.{row-low, touched-nowhere, touched-everywhere, touched-found, touched-malformed}
+use Rattle.device.proofs.Laws.{row-low, touched-in, touched-at}
 use Rattle.device.proofs.touches_endpoint.Statement.{statement}
 use Rattle.device.proofs.touches_endpoint.Tie as tie
 
@@ -24,9 +24,6 @@ enum-known-found c = search needs
 cast-i : tie.Need-cast-i
 cast-i c = search needs
 
-mul-is-touched : tie.Need-mul-is-touched
-mul-is-touched c = search needs
-
 element-copy-out-is-touched : tie.Need-element-copy-out-is-touched
 element-copy-out-is-touched c = row-low (c .before .before .before .before .before .before .before .args .e) _ _ (search needs) (c .before .before .before .before .row-of .ensures) (c .before .before .found .given .1)
 
@@ -37,16 +34,16 @@ enum-told-4 : tie.Need-enum-told-4
 enum-told-4 c = search needs
 
 returns : tie.Need-returns
-returns c = touched-nowhere _ _ _ (c .enum-told .given .1)
+returns c = λ d p. touched-in d (c .before .before .args .e) _ _ refl refl _ _ (c .enum-told .given .1)
 
 returns-2 : tie.Need-returns-2
-returns-2 c = touched-everywhere _ _ _ (c .enum-told2 .given .1)
+returns-2 c = λ d p. touched-in d (c .before .before .args .e) _ _ refl refl _ _ (c .enum-told2 .given .1)
 
 returns-3 : tie.Need-returns-3
-returns-3 c = c .is-touched .ensures ∙ touched-found _ _ _ _ (c .before .before .before .before .before .before .before .enum-told3 .given .1) _ (c .before .before .before .before .before .before .row-of .ensures) _ (c .before .before .before .before .found .given .1)
+returns-3 c = λ d p. c .is-touched .ensures ∙ touched-at d (c .before .before .before .before .before .before .before .before .before .args .e) _ _ _ (c .before .before .before .before .before .before .row-of .ensures) (c .before .before .before .before .found .given .1) _ _ p (c .before .before .before .before .before .before .before .enum-told3 .given .1)
 
 returns-4 : tie.Need-returns-4
-returns-4 c = touched-malformed _ _ _ _ (c .before .before .before .enum-told3 .given .1) _ (c .before .before .row-of .ensures) (c .enum-told4 .given .1)
+returns-4 c = λ d p. touched-in d (c .before .before .before .before .before .args .e) _ _ (c .before .before .row-of .ensures) (c .enum-told4 .given .1) _ _ (c .before .before .before .enum-told3 .given .1)
 
 pub touches-endpoint-spec : {M : Type 1} → statement M
 touches-endpoint-spec =
@@ -58,7 +55,6 @@ touches-endpoint-spec =
     row-of-requires
     enum-known-found
     cast-i
-    mul-is-touched
     element-copy-out-is-touched
     is-touched-requires
     enum-told-4

@@ -1,15 +1,10 @@
--- `gate::take_packet` meets its contract: the packet's bytes, wherever they lie, are those held and the piece's.
+-- `gate::take_packet` meets its contract: the packet's bytes, wherever they lie, are read and ruled on (`Taken`).
 -- Assumes nothing.
-use Rattle.gate.proofs.Cases.{packet-is}
+use denote.Ref.{now}
+use Rattle.gate.proofs.Taken.{packet-refused, packet-ruled}
 use borrow.Author.Needs.{needs}
 use Rattle.gate.proofs.take_packet.Statement.{statement}
 use Rattle.gate.proofs.take_packet.Tie as tie
-
-held-of-requires : tie.Need-held-of-requires
-held-of-requires c κs = search needs
-
-hold-count-requires : tie.Need-hold-count-requires
-hold-count-requires c κs = search needs
 
 complete-requires : tie.Need-complete-requires
 complete-requires c κs = search needs
@@ -20,27 +15,82 @@ place-of-requires c κs = search needs
 lend-requires : tie.Need-lend-requires
 lend-requires c κs = search needs
 
-verdict-of-requires : tie.Need-verdict-of-requires
-verdict-of-requires c κs = search needs
+saturating-sub-requires : tie.Need-saturating-sub-requires
+saturating-sub-requires c κs = search needs
+
+cast-t33 : tie.Need-cast-t33
+cast-t33 c = search needs
+
+saturating-sub-requires-2 : tie.Need-saturating-sub-requires-2
+saturating-sub-requires-2 c κs = search needs
+
+get-requires : tie.Need-get-requires
+get-requires c κs = search needs
+
+part-requires : tie.Need-part-requires
+part-requires c κs = search needs
+
+read-behind-requires : tie.Need-read-behind-requires
+read-behind-requires c κs = search needs
+
+enum-known-reading : tie.Need-enum-known-reading
+enum-known-reading c = search needs
+
+ended-requires : tie.Need-ended-requires
+ended-requires c κs = search needs
+
+enum-known-reading-2 : tie.Need-enum-known-reading-2
+enum-known-reading-2 c = search needs
+
+case-of-requires : tie.Need-case-of-requires
+case-of-requires c κs = search needs
+
+rule-requires : tie.Need-rule-requires
+rule-requires c κs = search needs
 
 same-length : tie.Need-same-length
-same-length c = search needs
+same-length c = c .before .before .before .before .before .before .before .before .before .before .before .before .before .before .before .complete .kept .0
 
 returns : tie.Need-returns
 returns c =
-    let s = c .before .before .before .before .before .before .before .before .before .before .before .before .before in
-    let d = c .before .before .before .before .before .before .before in
-    packet-is (s .args .from) (s .args .s) _ _ (c .before .before .before .before .before .before .before .before .before .before .held-of .ensures) (c .before .verdict-of .result) _ _ (s .pre) (d .complete .ensures .0) (d .complete .ensures .1) (c .before .before .before .before .place-of .ensures) (c .before .before .before .before .before .before .before .before .before .hold-count .ensures) (c .before .before .lend .ensures) (c .before .verdict-of .ensures)
+    let b = c .before .before .before .before .before in
+    let k = b .before .before .before .before .before .before .before .before .before .before in
+    let a = k .before .before .before .before .args in
+    let t = rw (b .before .before .before .before .saturating-sub .ensures, b .before .before .get .ensures .0, b .before .before .before .saturating-sub2 .ensures) at (b .read-behind .ensures) in
+    λ s from l el ed r cut.
+    packet-refused from s (now (a .hold)) (now (a .piece)) (l .head) el ed r cut (k .complete .ensures .0) (b .before .before .before .before .before .before .before .place-of .ensures) (k .complete .ensures .1) (b .before .before .before .before .before .lend .ensures) (b .before .part .ensures) (b .read-behind .result) t (c .before .before .before .reading .given .1) (c .ended .ensures)
+
+same-length-2 : tie.Need-same-length-2
+same-length-2 c = c .before .before .before .before .before .before .before .before .before .before .before .before .before .before .before .complete .kept .0
+
+returns-2 : tie.Need-returns-2
+returns-2 c =
+    let b = c .before .before .before .before .before in
+    let k = b .before .before .before .before .before .before .before .before .before .before in
+    let a = k .before .before .before .before .args in
+    let t = rw (b .before .before .before .before .saturating-sub .ensures, b .before .before .get .ensures .0, b .before .before .before .saturating-sub2 .ensures) at (b .read-behind .ensures) in
+    λ s from l el ed r cut.
+    packet-ruled from s (now (a .hold)) (now (a .piece)) (l .head) el ed r cut (k .complete .ensures .0) (b .before .before .before .before .before .before .before .place-of .ensures) (k .complete .ensures .1) (b .before .before .before .before .before .lend .ensures) (b .before .part .ensures) (b .read-behind .result) t (c .rule .result) (c .before .before .before .reading2 .given .1) (c .before .case-of .ensures) (c .rule .ensures (s .rows) (s .requests) (l .types-lent) (l .streams-lent) (record { used = l .used-lent; live = l .live-lent; kinds = l .kinds-lent; ids = l .ids-lent }))
 
 pub take-packet-spec : {M : Type 1} → statement M
 take-packet-spec =
     tie.close
     (tie.spec
-    held-of-requires
-    hold-count-requires
     complete-requires
     place-of-requires
     lend-requires
-    verdict-of-requires
+    saturating-sub-requires
+    cast-t33
+    saturating-sub-requires-2
+    get-requires
+    part-requires
+    read-behind-requires
+    enum-known-reading
+    ended-requires
+    enum-known-reading-2
+    case-of-requires
+    rule-requires
     same-length
-    returns)
+    returns
+    same-length-2
+    returns-2)

@@ -1,84 +1,86 @@
--- `number::get` meets its contract: from the last byte to the first, what has been read is `le` of the bytes passed, and so wraps nowhere.
+-- `number::get` meets its contract: eight bytes are four and four (`le-halves`), and any other number is read byte by byte.
 -- Assumes nothing.
-use mathlib.Core.Path.{_≡_}
-use Prim.Native.Nat.{_+_, _-_, _*_, _≤_, _<_, _^_}
-use native.Mathlib.Nat.{add-zero, sub-zero}
+use mathlib.Core.Path.{_≡_, sym, _∙_}
+use Prim.Native.Nat.{_+_, _≤_}
 use native.Mathlib.Omega.{arith}
-use lib.Dec.{lit<}
-use Rattle.number.specs.Little.{le}
-use Rattle.number.proofs.Laws.{le-step, grow, room}
+use lib.ListN.{length}
+use lib.Dec.{eqb}
+use borrow.Author.Tests.{leb-true, eqb-true}
+use Rattle.number.specs.Logic.{and-parts}
+use Rattle.number.specs.Laws.{le-halves}
+use borrow.Author.Needs.{needs}
 use Rattle.number.proofs.get.Statement.{statement}
 use Rattle.number.proofs.get.Tie as tie
 
-abbrev Inv-loop : tie.InvT-loop
-Inv-loop s at n i₀ x₀ i x = (i ≤ i₀) × ((x ≡ le (i₀ - i) s (at + i)) × (x < 256 ^ (i₀ - i)))
+get32-requires : tie.Need-get32-requires
+get32-requires c κs = search needs
 
-abbrev μ-loop : tie.MeasureT-loop
-μ-loop s at n i₀ x₀ i x = i
+cast-result : tie.Need-cast-result
+cast-result c = search needs
 
-minimum-requires : tie.Need-minimum-requires Inv-loop μ-loop
-minimum-requires c κs = tt
-
-loop-holds : tie.Need-loop-holds Inv-loop μ-loop
-loop-holds c =
-    let e : c .minimum .result - c .minimum .result ≡ 0 = omega arith in
-    (omega arith, (rw e, rw e (lit< tt)))
-
-sub-i : tie.Need-sub-i Inv-loop μ-loop
-sub-i c = omega arith
-
-mul-x : tie.Need-mul-x Inv-loop μ-loop
-mul-x c =
-    let l = c .before .loop in
-    let n = c .before .before .minimum in
-    omega (arith, grow (n .result) (l .i) (l .x) 0 (c .loop-test .taken) (l .inv .0) (l .inv .1 .1) (lit< tt), room (n .result) (l .i - 1) (omega arith))
-
-byte-after-requires : tie.Need-byte-after-requires Inv-loop μ-loop
-byte-after-requires c κs = tt
-
-cast-x : tie.Need-cast-x Inv-loop μ-loop
-cast-x c = omega arith
-
-next : (c : tie.After-byte-after Inv-loop μ-loop)
-    → c .before .before .loop .x * 256 + c .byte-after .result < 256 ^ (c .before .before .before .minimum .result - (c .before .before .loop .i - 1))
-next c =
-    let l = c .before .before .loop in
-    grow (c .before .before .before .minimum .result) (l .i) (l .x) _ (c .before .loop-test .taken) (l .inv .0) (l .inv .1 .1) (omega arith)
-
-add-x : tie.Need-add-x Inv-loop μ-loop
-add-x c =
-    let n = c .before .before .before .minimum in
-    omega (arith, next c, room (n .result) (c .before .before .loop .i - 1) (omega arith))
-
-loop-less : tie.Need-loop-less Inv-loop μ-loop
-loop-less c = omega arith
-
-loop-again : tie.Need-loop-again Inv-loop μ-loop
-loop-again c =
-    let l = c .before .before .loop in
-    let n = c .before .before .before .minimum .result in
-    let a = c .before .before .before .before .before .args in
-    (omega arith, (omega (arith, le-step (a .s .now) (a .at) n (l .i) (c .before .loop-test .taken) (l .inv .0), l .inv .1 .0), omega (arith, next c)))
-
-returns : tie.Need-returns Inv-loop μ-loop
+returns : tie.Need-returns
 returns c =
-    let l = c .before .loop in
-    let e : l .i ≡ 0 = omega arith in
-    (rw (e, add-zero, sub-zero, c .before .before .minimum .ensures) at (l .inv .1 .0), rw (e, sub-zero, c .before .before .minimum .ensures) at (l .inv .1 .1))
+    let e : c .before .before .before .args .n ≡ 4 = c .before .if1 .taken in
+    rw e (search needs)
+
+stand-requires : tie.Need-stand-requires
+stand-requires c κs = search needs
+
+-- eight bytes are there
+eight : (c : tie.Then2) → c .before .before .before .before .args .at + 8 ≤ length (c .before .before .before .before .args .s .now)
+eight c =
+    let a = c .before .before .before .before .args in
+    leb-true (a .at + 8) (length (a .s .now)) (sym (c .before .stand .ensures) ∙ and-parts (eqb (a .n) 8) (c .before .stand .result) (c .if2 .taken) .1)
+
+four-requires : tie.Need-four-requires
+four-requires c κs = omega (arith, eight c)
+
+cast-low : tie.Need-cast-low
+cast-low c = search needs
+
+add-four : tie.Need-add-four
+add-four c = omega (arith, eight (c .before))
+
+four-requires-2 : tie.Need-four-requires-2
+four-requires-2 c κs = omega (arith, eight (c .before))
+
+cast-high : tie.Need-cast-high
+cast-high c = search needs
+
+mul-result : tie.Need-mul-result
+mul-result c = search needs
+
+add-result : tie.Need-add-result
+add-result c = search needs
+
+returns-2 : tie.Need-returns-2
+returns-2 c =
+    let t = c .before .before in
+    let a = t .before .before .before .before .args in
+    let e : a .n ≡ 8 = eqb-true (a .n) 8 (and-parts (eqb (a .n) 8) (t .before .stand .result) (t .if2 .taken) .0) in
+    rw e (le-halves (a .s .now) (a .at) (c .before .four .ensures) (c .four2 .ensures), omega arith)
+
+gather-requires : tie.Need-gather-requires
+gather-requires c κs = search needs
+
+returns-3 : tie.Need-returns-3
+returns-3 c = search needs
 
 pub get-spec : {M : Type 1} → statement M
 get-spec =
     tie.close
     (tie.spec
-    Inv-loop
-    μ-loop
-    minimum-requires
-    loop-holds
-    sub-i
-    mul-x
-    byte-after-requires
-    cast-x
-    add-x
-    loop-less
-    loop-again
-    returns)
+    get32-requires
+    cast-result
+    returns
+    stand-requires
+    four-requires
+    cast-low
+    add-four
+    four-requires-2
+    cast-high
+    mul-result
+    add-result
+    returns-2
+    gather-requires
+    returns-3)

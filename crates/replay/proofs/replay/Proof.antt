@@ -56,14 +56,18 @@ side-of-requires c κs = search needs
 part-requires : tie.Need-part-requires Inv-loop μ-loop
 part-requires c κs = search needs
 
-verdict-of-requires : tie.Need-verdict-of-requires Inv-loop μ-loop
-verdict-of-requires c κs = search needs
+judge-requires : tie.Need-judge-requires Inv-loop μ-loop
+judge-requires c κs = search needs
 
 slice-write-out : tie.Need-slice-write-out Inv-loop μ-loop
 slice-write-out c = search needs
 
+-- a whole packet ends within the script, so that its end is a number too
+ends-within : (c : tie.Else1 Inv-loop μ-loop) → c .before .before .before .before .loop .at + (3 + c .before .get16 .result) < 2 ^ 64
+ends-within c = omega arith
+
 add-at : tie.Need-add-at Inv-loop μ-loop
-add-at c = search needs
+add-at c = omega (arith, ends-within (c .before .before .before .before .before))
 
 -- k is a place of the output, so that the place after it is a number too
 one-more : (c : tie.In-loop Inv-loop μ-loop) → c .before .loop .k + 1 < 2 ^ 64
@@ -78,7 +82,7 @@ loop-less c = search needs
 loop-again : tie.Need-loop-again Inv-loop μ-loop
 loop-again c =
     let a = c .before .before .before .before .before .before .before .before in
-    replay-goes-on (a .before .loop .inv) (c .before .verdict-of .result) (a .loop-test .taken) (part-to-end (a .before .before .before .before .before .args .script .now) (a .before .loop .at)) (c .before .before .before .before .before .before .get16 .ensures) (c .before .before .before .before .before .if1 .left) (c .before .before .before .before .get8 .ensures) (c .before .before .before .side-of .ensures) (c .before .before .part .ensures) (c .before .verdict-of .ensures)
+    replay-goes-on (a .before .loop .inv) (c .before .judge .result) (a .loop-test .taken) (part-to-end (a .before .before .before .before .before .args .script .now) (a .before .loop .at)) (c .before .before .before .before .before .before .get16 .ensures) (c .before .before .before .before .before .if1 .left) (c .before .before .before .before .get8 .ensures) (c .before .before .before .side-of .ensures) (c .before .before .part .ensures) (c .before .judge .ensures)
 
 same-length-2 : tie.Need-same-length-2 Inv-loop μ-loop
 same-length-2 c = search needs
@@ -105,7 +109,7 @@ replay-spec =
     get8-requires
     side-of-requires
     part-requires
-    verdict-of-requires
+    judge-requires
     slice-write-out
     add-at
     add-k

@@ -16,16 +16,16 @@ form-totals-requires c κs = search needs
 -- the totals have at most 117 bytes
 short : (c : tie.After-form-totals) → c .form-totals .result ≤ 117
 short c =
-    let a = c .before .before .before .before .before .args in
-    omega (arith, c .form-totals .ensures .size, totals-short (a .p .totals .passed) (a .p .totals .refused) (a .p .session .stopped))
+    let a = c .before .before .before .before .before .before .args in
+    omega (arith, c .form-totals .ensures .size, totals-short (a .p .totals .passed) (a .p .totals .refused) (a .p .session .head .stopped))
 
-room : (c : tie.After-form-totals) → c .before .before .before .before .before .args .p .size + c .form-totals .result ≤ length (c .form-totals .last .0)
+room : (c : tie.After-form-totals) → c .before .before .before .before .before .before .args .p .size + c .form-totals .result ≤ length (c .form-totals .last .0)
 room c =
-    let a = c .before .before .before .before .before in
+    let a = c .before .before .before .before .before .before in
     omega (arith, short c, c .form-totals .kept .0, a .pre .0 .room, a .pre .1)
 
 add-write-all : tie.Need-add-write-all
-add-write-all c = omega (arith, short (c .before .before), c .before .before .before .before .before .before .before .pre .0 .room)
+add-write-all c = omega (arith, short (c .before .before), c .before .before .before .before .before .before .before .before .pre .0 .room)
 
 slice-reshare-prefix-write-all : tie.Need-slice-reshare-prefix-write-all
 slice-reshare-prefix-write-all c = room (c .before .before)

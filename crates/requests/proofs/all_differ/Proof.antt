@@ -5,7 +5,7 @@ use mathlib.Core.Path.{_≡_, sym, _∙_}
 use native.Mathlib.Omega.{arith}
 use lib.ListN.{length, drop}
 use borrow.Author.Needs.{needs}
-use Rattle.requests.specs.Ids.{distinct}
+use Rattle.requests.specs.Requests.{distinct}
 use Rattle.requests.proofs.Laws.{distinct-not, distinct-more, distinct-none}
 use Rattle.requests.proofs.all_differ.Statement.{statement}
 use Rattle.requests.proofs.all_differ.Tie as tie

@@ -8,7 +8,7 @@ use borrow.Author.Needs.{needs}
 use borrow.Author.Tests.{eq-eqb, ne-eqb}
 use Rattle.scan.specs.Scan.{exists}
 use Rattle.scan.specs.Loop.{exists-hit, exists-miss, exists-none}
-use Rattle.requests.specs.Ids.{same}
+use Rattle.requests.specs.Requests.{same}
 use Rattle.requests.proofs.occurs.Statement.{statement}
 use Rattle.requests.proofs.occurs.Tie as tie
 

@@ -7,8 +7,8 @@ use Rattle.header.specs.Link.{sharedSet}
 use Rattle.session.proofs.is_shared.Statement.{statement}
 use Rattle.session.proofs.is_shared.Tie as tie
 
-link-of-requires : tie.Need-link-of-requires
-link-of-requires c κs = search needs
+link-to-requires : tie.Need-link-to-requires
+link-to-requires c κs = search needs
 
 shared-set-requires : tie.Need-shared-set-requires
 shared-set-requires c κs = search needs
@@ -19,8 +19,8 @@ has-bit-requires c κs = search needs
 returns : tie.Need-returns
 returns c =
     let bit = c .before .before .before .args .bit in
-    let set = c .before .shared-set .ensures ∙ ap sharedSet (c .before .before .link-of .ensures) in
+    let set = c .before .shared-set .ensures ∙ ap sharedSet (c .before .before .link-to .ensures) in
     c .has-bit .ensures ∙ (λ j. hasBit (set j) bit)
 
 pub is-shared-spec : {M : Type 1} → statement M
-is-shared-spec = tie.close (tie.spec link-of-requires shared-set-requires has-bit-requires returns)
+is-shared-spec = tie.close (tie.spec link-to-requires shared-set-requires has-bit-requires returns)

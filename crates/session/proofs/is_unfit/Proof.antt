@@ -1,4 +1,4 @@
--- `session::is_unfit` meets its contract: each test by what its function ensures.
+-- `session::is_unfit` meets its contract: each test by what its function ensures of the columns.
 -- Assumes nothing.
 use mathlib.Core.Bool.{not, _||_}
 use borrow.Author.Needs.{needs}
@@ -20,11 +20,11 @@ has-control-rows-requires c κs = search needs
 
 returns : tie.Need-returns
 unfolding unfit
-returns c =
+returns c = λ d t p u v w.
     let guest = c .before .before .before .is-held-bad .ensures in
     let host = c .before .before .is-held-bad2 .ensures in
-    let ids = c .before .ids-differ .ensures in
-    let control = c .has-control-rows .ensures in
+    let ids = c .before .ids-differ .ensures t u v w in
+    let control = c .has-control-rows .ensures d p in
     λ j. guest j || host j || not (ids j) || not (control j)
 
 pub is-unfit-spec : {M : Type 1} → statement M

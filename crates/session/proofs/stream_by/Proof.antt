@@ -1,4 +1,4 @@
--- `session::stream_by` meets its contract: the rows that the packet is about are those of the arm.
+-- `session::stream_by` meets its contract: the packet is the one of the arm.
 -- Assumes nothing.
 use borrow.Author.Needs.{needs}
 use Rattle.session.proofs.stream_by.Statement.{statement}

@@ -28,8 +28,8 @@ returns c =
     let a = d .before .before .before .before .before .before .before .args in
     call-no-line (a .from) (a .r) (a .hold .now) (a .rest .now) (a .out .now) (d .offer .result) (d .offer .ensures) (small (d .before .before .before .before .before .before .before)) (sym (c .before .gives-line .ensures) ∙ not-true _ (c .if1 .taken))
 
-link-of-requires : tie.Need-link-of-requires
-link-of-requires c κs = search needs
+link-to-requires : tie.Need-link-to-requires
+link-to-requires c κs = search needs
 
 bytes-of-requires : tie.Need-bytes-of-requires
 bytes-of-requires c κs = search needs
@@ -56,10 +56,10 @@ returns-2 : tie.Need-returns-2
 returns-2 c =
     let f = c .before .before .before .before in
     let b = f .before .before .before in
-    let i = b .before .before .before in
+    let i = b .before .before .before .before in
     let d = i .before .before .before .before .before .before in
     let a = d .before .before .before .before .before .before .before .args in
-    call-told (a .from) (a .r) (a .hold .now) (a .rest .now) (a .out .now) (d .offer .result) (d .offer .ensures) (sym (i .before .gives-line .ensures) ∙ not-false _ (i .if1 .left)) (b .before .before .link-of .ensures) (b .bytes-of .ensures) (f .before .before .read-header .ensures) (f .form-answer .ensures) (c .before .count .ensures) (c .saturating-add .ensures)
+    call-told (a .from) (a .r) (a .hold .now) (a .rest .now) (a .out .now) (d .offer .result) (d .offer .ensures) (sym (i .before .gives-line .ensures) ∙ not-false _ (i .if1 .left)) (b .before .before .link-to .ensures) (b .bytes-of .ensures) (f .before .before .read-header .ensures) (f .form-answer .ensures) (c .before .count .ensures) (c .saturating-add .ensures)
 
 pub report-call-spec : {M : Type 1} → statement M
 report-call-spec =
@@ -69,7 +69,7 @@ report-call-spec =
     gives-line-requires
     same-length
     returns
-    link-of-requires
+    link-to-requires
     bytes-of-requires
     read-header-requires
     form-answer-requires

@@ -1,0 +1,73 @@
+-- A change of at most one row's stream and one place, for callers that keep the parts of a session in locals and store it there.
+-- Assumes nothing: these are definitions.
+use Prim.Native.Nat.{ℕ}
+use mathlib.Core.Bool.{Bool, true, false, cond}
+use mathlib.Core.Path.{_≡_}
+use lib.Dec.{ltb}
+use Rattle.scan.specs.Scan.{putAt}
+use Rattle.header.specs.declared.Side.{Side}
+use Rattle.device.specs.declared.Head.{Head}
+use Rattle.device.specs.declared.Rows.{Rows}
+use Rattle.device.specs.declared.Scope.{Scope}
+use Rattle.device.specs.declared.Scope.the-variants.{Nowhere, Everywhere, OfInterface}
+use Rattle.device.specs.Device.{withStreams}
+use Rattle.device.specs.Columns.{streamRow}
+use Rattle.requests.specs.declared.Requests.{Requests}
+use Rattle.requests.specs.Requests.{noRequest, withRequest, freed}
+use Rattle.events.specs.declared.Typed.{Typed}
+use Rattle.events.specs.declared.Typed.the-variants.{Untyped, OfEndpoint, OfMask}
+use Rattle.checks.specs.declared.Change.{Change}
+use Rattle.checks.specs.declared.Change.the-variants.{Nothing, Hello, Connect, Interfaces, Endpoints, Disconnect, Reset, Acknowledge, Take, Start, Answer}
+use Rattle.session.specs.declared.Edit.{Edit}
+use Rattle.session.specs.Step.{streamBy, headAfter, rowsAfter, requestsAfter}
+
+-- the row whose stream a packet moves, 32 for none
+abbrev pub rowMoved : Rows → Typed → ℕ
+rowMoved d Untyped = 32
+rowMoved d (OfEndpoint e ty) = streamRow d e ty
+rowMoved d (OfMask m ty) = 32
+
+-- the rows with the stream of one row set, 32 for none
+abbrev pub streamAt : Rows → ℕ → Bool → Rows
+streamAt d row b = cond (ltb row 32) (withStreams d (putAt 32 false (d .streams) row b)) d
+
+-- a packet that moves a stream sets that of this row
+pub record Moves (d : Rows) (typed : Typed) (row : ℕ) : Type 0 where
+  pub exactly : row ≡ rowMoved d typed
+  pub stored : (b : Bool) → streamBy d typed b ≡ streamAt d row b
+
+-- no row, no place: what is left to `applied`
+abbrev pub wideEdit : Edit
+wideEdit = record { row = 32; opens = false; place = 96; live = false; request = noRequest; wide = true }
+
+abbrev pub replyEdit : Rows → ℕ → Typed → Bool → Scope → Edit
+replyEdit d i typed opens Nowhere = record { row = rowMoved d typed; opens = opens; place = i; live = false; request = noRequest; wide = false }
+replyEdit d i typed opens Everywhere = wideEdit
+replyEdit d i typed opens (OfInterface n) = wideEdit
+
+abbrev pub editOf : Rows → Change → Edit
+editOf d Nothing = record { row = 32; opens = false; place = 96; live = false; request = noRequest; wide = false }
+editOf d (Hello word) = wideEdit
+editOf d Connect = wideEdit
+editOf d Interfaces = wideEdit
+editOf d Endpoints = wideEdit
+editOf d Disconnect = wideEdit
+editOf d Reset = wideEdit
+editOf d Acknowledge = wideEdit
+editOf d (Take i q) = record { row = 32; opens = false; place = i; live = true; request = q; wide = false }
+editOf d (Start i q typed) = record { row = rowMoved d typed; opens = true; place = i; live = true; request = q; wide = false }
+editOf d (Answer i typed opens scope) = replyEdit d i typed opens scope
+
+-- the rows and the requests with the edit stored
+abbrev pub rowsEdited : Rows → Edit → Rows
+rowsEdited d e = streamAt d (e .row) (e .opens)
+
+abbrev pub requestsEdited : Requests → Edit → Requests
+requestsEdited t e = cond (ltb (e .place) 96) (cond (e .live) (withRequest t (e .place) (e .request)) (freed t (e .place))) t
+
+-- an edit that is not wide is the whole change
+pub record Edits (d : Rows) (c : Change) (e : Edit) : Type 0 where
+  pub exactly : e ≡ editOf d c
+  pub head : e .wide ≡ false → (h : Head) (from : Side) → headAfter h from c ≡ h
+  pub rows : e .wide ≡ false → (new : Rows) → rowsAfter d c new ≡ rowsEdited d e
+  pub requests : e .wide ≡ false → (t : Requests) → requestsAfter t d c ≡ requestsEdited t e
