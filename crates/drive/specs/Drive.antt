@@ -1,4 +1,5 @@
--- A script of reader calls on a fresh session: what each call tells, and what stands in the two holding buffers when the script is over.
+-- A script of reader calls on a fresh session: what each call tells, and what stands in the two holding buffers when the script is over. The two
+-- are the halves of one buffer.
 -- Assumes nothing: these are definitions.
 use Prim.Native.Nat.{ℕ, zero, suc, _+_, _/_}
 use mathlib.Core.Bool.{Bool, cond}
@@ -61,46 +62,42 @@ recordBytes number place taken size start end id =
 abbrev pub recordOf : Outcome → List ℕ
 recordOf o = recordBytes (o .number) (placeNumber (o .place)) (o .taken) (o .size) (startOf (o .handed)) (endOf (o .handed)) (idOf (o .handed))
 
+-- ---- the halves of the buffer: the first is the guest's, the second the host's, and a last odd byte is in neither
+
+abbrev pub halfOf : List ℕ → ℕ
+halfOf holds = length holds / 2
+
+-- where a side's own half starts
+abbrev pub baseOf : Side → ℕ → ℕ
+baseOf Guest half = 0
+baseOf Host half = half
+
+abbrev pub ownOf : Side → List ℕ → List ℕ
+ownOf from holds = slice (baseOf from (halfOf holds)) (baseOf from (halfOf holds) + halfOf holds) holds
+
+-- the buffer with a side's own half set
+abbrev pub withOwn : Side → List ℕ → List ℕ → List ℕ
+withOwn from own holds = sets holds (baseOf from (halfOf holds)) own
+
 -- ---- a run
 
--- the session, what the two holding buffers hold, the records, one after the other, and the number of calls
+-- the session, the holding buffers, the records, one after the other, and the number of calls
 pub record Run : Type 0 where
   pub session : Session
-  pub guest : List ℕ
-  pub host : List ℕ
+  pub holds : List ℕ
   pub records : List ℕ
   pub calls : ℕ
 
-abbrev pub begun : List ℕ → List ℕ → Run
-begun guest host = record { session = freshSession; guest = guest; host = host; records = []; calls = 0 }
-
--- the sender's own buffer, of the guest's and the host's
-abbrev pub ownOf : Side → List ℕ → List ℕ → List ℕ
-ownOf Guest guest host = guest
-ownOf Host guest host = host
-
--- the guest's buffer, and the host's, once the sender's own has become `own`
-abbrev pub guestAfter : Side → List ℕ → List ℕ → List ℕ
-guestAfter Guest own guest = own
-guestAfter Host own guest = guest
-
-abbrev pub hostAfter : Side → List ℕ → List ℕ → List ℕ
-hostAfter Guest own host = host
-hostAfter Host own host = own
+abbrev pub begun : List ℕ → Run
+begun holds = record { session = freshSession; holds = holds; records = []; calls = 0 }
 
 abbrev pub recorded : Run → Side → Outcome → Run
 recorded r from o =
-    record {
-      session = o .session;
-      guest = guestAfter from (o .hold) (r .guest);
-      host = hostAfter from (o .hold) (r .host);
-      records = r .records ++ recordOf o;
-      calls = suc (r .calls);
-    }
+    record { session = o .session; holds = withOwn from (o .hold) (r .holds); records = r .records ++ recordOf o; calls = suc (r .calls) }
 
--- a call is made over the sender's own buffer, and the other buffer stays
+-- a call is made over the sender's own half, and the rest of the buffer stays
 abbrev pub called : Run → Side → List ℕ → Run
-called r from piece = recorded r from (offerOf from (r .session) (ownOf from (r .guest) (r .host)) piece)
+called r from piece = recorded r from (offerOf from (r .session) (ownOf from (r .holds)) piece)
 
 -- the items of a script, at most so many; it ends at one that is cut short
 unfoldable pub runOf : ℕ → Run → List ℕ → Run
@@ -108,12 +105,11 @@ runOf zero r script = r
 runOf (suc n) r script = cond (isWhole script) (runOf n (called r (senderAt script) (pieceAt script)) (drop (sizeAt script) script)) r
 
 -- as many calls as the output has room for
-unfoldable pub driven : List ℕ → List ℕ → List ℕ → List ℕ → Run
-driven script guest host out = runOf (length out / 26) (begun guest host) script
+unfoldable pub driven : List ℕ → List ℕ → List ℕ → Run
+driven script holds out = runOf (length out / 26) (begun holds) script
 
 -- the records stand at the front of the output, and the number of calls is told
-pub record Drives (script guest host out guest′ host′ out′ : List ℕ) (count : ℕ) : Type 0 where
-  pub count-is : count ≡ driven script guest host out .calls
-  pub guest-is : guest′ ≡ driven script guest host out .guest
-  pub host-is : host′ ≡ driven script guest host out .host
-  pub output : out′ ≡ sets out 0 (driven script guest host out .records)
+pub record Drives (script holds out holds′ out′ : List ℕ) (count : ℕ) : Type 0 where
+  pub count-is : count ≡ driven script holds out .calls
+  pub holds-are : holds′ ≡ driven script holds out .holds
+  pub output : out′ ≡ sets out 0 (driven script holds out .records)

@@ -4,12 +4,18 @@ ghost use mathlib.Core.Path.{_≡_};
 ghost use Prim.Native.Nat.{_+_, _≤_};
 ghost use lib.ListN.{length};
 ghost use lib.Seq.{sets};
-ghost use Rattle.drive.specs.Drive.{placeNumber, Drives};
+ghost use Rattle.drive.specs.Drive.{placeNumber, baseOf, Drives};
 ghost use Rattle.drive.specs.Steps.{spanOf, answerBytes};
+use device::Rows;
 use frame::Place;
 use gate::Answer;
 use gate::Handed;
-use gate::offer;
+use gate::body_of;
+use gate::change_of;
+use gate::decide;
+use gate::rows_told;
+use gate::settle;
+use gate::wanted;
 use header::Side;
 use header::side_of;
 use number::get8;
@@ -17,8 +23,15 @@ use number::get32;
 use number::part;
 use number::put;
 use packet::part_named;
+use requests::Requests;
+use requests::free_slot;
+use requests::slot_for;
 use session::Session;
+use session::apply;
+use session::edit_of;
 use session::fresh_session;
+use session::hold_to;
+use session::store;
 
 // Where the part that a packet names stands among the packet's bytes, and the packet's id.
 struct Data {
@@ -58,34 +71,59 @@ fn data_of(handed: Handed) -> Data
     }
 }
 
-// Lays the record of a call.
-fn put_record(out: &mut [u8], at: usize, a: Answer)
+// Lays the record of a call, for which there has to be room.
+pub fn put_record(out: &mut [u8], at: usize, a: Answer)
     requires { ⌜ at + 26 ≤ length (now out) ⌝ }
     ensures { λ _. ⌜ now (out .exit) ≡ sets (now (out .entry)) at (answerBytes a) ⌝ }
 {
     let place = a.place;
     let handed = a.handed;
     let data = data_of(handed);
-    put(out, at, 1, a.number as u64);
-    put(out, at + 1, 1, place_number(place));
-    put(out, at + 2, 4, a.taken as u64);
-    put(out, at + 6, 4, a.size as u64);
-    put(out, at + 10, 4, data.start as u64);
-    put(out, at + 14, 4, data.end as u64);
-    put(out, at + 18, 8, data.id);
+    let r = &mut out[at..at + 26];
+    put(r, 0, 1, a.number as u64);
+    put(r, 1, 1, place_number(place));
+    put(r, 2, 4, a.taken as u64);
+    put(r, 6, 4, a.size as u64);
+    put(r, 10, 4, data.start as u64);
+    put(r, 14, 4, data.end as u64);
+    put(r, 18, 8, data.id);
+}
+
+// Where a side's half of the holding buffer starts.
+pub fn base_of(from: Side, half: usize) -> usize
+    ensures { λ r. ⌜ r ≡ baseOf from half ⌝ }
+{
+    match from {
+        Side::Guest => 0,
+        Side::Host => half,
+    }
 }
 
 // Makes a reader call for each item of the script, as far as the script and the output go, and tells how many. An item is a byte for
-// the sender (0 guest, else host), four bytes for the size of the piece, and the piece. Each call has 26 bytes of the output: number
-// (1), place (1: 0 nowhere, 1 piece, 2 buffer), taken (4), size (4), where the data starts and ends among the packet's bytes (4, 4), id (8).
+// the sender (0 guest, else host), four bytes for the size of the piece, and the piece. The guest's bytes are held in the first half of
+// `holds`, the host's in the second. Each call has 26 bytes of the output: number (1), place (1: 0 nowhere, 1 piece, 2 buffer), taken
+// (4), size (4), where the data starts and ends among the packet's bytes (4, 4), id (8).
+// The columns of the session are locals: what a call changes is stored in place, but for the rare changes that `apply` makes.
 #[no_mangle]
-pub extern "C" fn drive(script: &[u8], guest: &mut [u8], host: &mut [u8], out: &mut [u8]) -> usize
-    ensures { λ r. ⌜ Drives (now (script .entry)) (now (guest .entry)) (now (host .entry)) (now (out .entry)) (now (guest .exit)) (now (host .exit)) (now (out .exit)) r ⌝ }
+pub extern "C" fn drive(script: &[u8], holds: &mut [u8], out: &mut [u8]) -> usize
+    ensures { λ r. ⌜ Drives (now (script .entry)) (now (holds .entry)) (now (out .entry)) (now (holds .exit)) (now (out .exit)) r ⌝ }
 {
-    let mut s = fresh_session();
+    let start = fresh_session();
+    let mut h = start.head;
+    let r = start.rows;
+    let t = start.requests;
+    let mut types = r.types;
+    let mut interfaces = r.interfaces;
+    let mut streams = r.streams;
+    let mut used = t.used;
+    let mut live = t.live;
+    let mut kinds = t.kinds;
+    let mut ids = t.ids;
+    let mut slots = t.slots;
     let mut at: usize = 0;
     let mut k: usize = 0;
     let room = out.len() / 26;
+    let half = holds.len() / 2;
     while k < room {
         let rest = &script[at..];
         let size = 5 + get32(rest, 1) as usize;
@@ -94,12 +132,71 @@ pub extern "C" fn drive(script: &[u8], guest: &mut [u8], host: &mut [u8], out: &
         }
         let from = side_of(get8(rest, 0));
         let piece = part(rest, 5, size);
-        let o = match from {
-            Side::Guest => offer(s, from, guest, piece),
-            Side::Host => offer(s, from, host, piece),
-        };
-        s = o.session;
-        let answer = o.answer;
+        let base = base_of(from, half);
+        let hold = &mut holds[base..base + half];
+        let d = decide(
+            h,
+            &types,
+            &streams,
+            used,
+            &live,
+            &kinds,
+            &ids,
+            from,
+            hold,
+            piece,
+        );
+        let w = wanted(d);
+        let slot = if w < 96 { slots[w] } else { free_slot() };
+        let e = settle(d, slot);
+        let answer = e.answer;
+        let c = change_of(e);
+        let edit = edit_of(&types, c);
+        h = hold_to(h, from, e.held, e.stopped);
+        if edit.wide {
+            let handed = answer.handed;
+            // lent anew: of a `&mut` part that a slice is cut from, the prover knows no bytes
+            let held = &holds[base..base + half];
+            let new = rows_told(handed, body_of(answer, piece, held));
+            let s = apply(
+                Session {
+                    head: h,
+                    rows: Rows {
+                        types,
+                        interfaces,
+                        streams,
+                    },
+                    requests: Requests {
+                        used,
+                        live,
+                        kinds,
+                        ids,
+                        slots,
+                    },
+                },
+                from,
+                c,
+                new,
+            );
+            h = s.head;
+            let r = s.rows;
+            let t = s.requests;
+            types = r.types;
+            interfaces = r.interfaces;
+            streams = r.streams;
+            used = t.used;
+            live = t.live;
+            kinds = t.kinds;
+            ids = t.ids;
+            slots = t.slots;
+        } else {
+            used = store(edit, used, &mut streams, &mut live, &mut kinds, &mut ids);
+            let place = edit.place;
+            if place < 96 {
+                let q = edit.request;
+                slots[place] = slot_for(q);
+            }
+        }
         put_record(out, k * 26, answer);
         at = at + size;
         k += 1;

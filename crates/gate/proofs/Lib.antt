@@ -1,6 +1,5 @@
 mod Barred
 mod Deciding
 mod InPlace
-mod Offering
 mod Taken
 mod Writing

@@ -4,4 +4,5 @@ pub mod Offer
 pub mod Laws
 pub mod Decide
 pub mod Called
+pub mod Settled
 pub mod Write

@@ -47,14 +47,18 @@ use packet::Packet;
 use packet::is_hello;
 use packet::part_named;
 use packet::part_of;
+use requests::Requests;
 use requests::Slot;
-use requests::slot_of;
+use requests::free_slot;
+use requests::slot_for;
 use session::Session;
 use session::apply;
+use session::edit_of;
 use session::held_in;
 use session::hold_to;
 use session::is_unfit;
 use session::link_to;
+use session::store;
 
 // What is handed out: nothing, or the packet that passed as its own reading.
 pub enum Handed {
@@ -321,35 +325,76 @@ pub fn offer(s: Session, from: Side, hold: &mut [u8], piece: &[u8]) -> Offered
     ensures { λ r. ⌜ outcome (linkOf from s) r (now (piece .entry)) (now (hold .exit)) ≡ offerOf from s (now (hold .entry)) (now (piece .entry)) ⌝ }
 {
     let h = s.head;
-    let rows = s.rows;
+    let r = s.rows;
     let t = s.requests;
+    let types = r.types;
+    let interfaces = r.interfaces;
+    let mut streams = r.streams;
+    let mut live = t.live;
+    let mut kinds = t.kinds;
+    let mut ids = t.ids;
+    let mut slots = t.slots;
     let d = decide(
         h,
-        &rows.types,
-        &rows.streams,
+        &types,
+        &streams,
         t.used,
-        &t.live,
-        &t.kinds,
-        &t.ids,
+        &live,
+        &kinds,
+        &ids,
         from,
         hold,
         piece,
     );
-    let e = settle(d, slot_of(t, wanted(d)));
+    let w = wanted(d);
+    let slot = if w < 96 { slots[w] } else { free_slot() };
+    let e = settle(d, slot);
     let answer = e.answer;
-    let handed = answer.handed;
     let head = hold_to(h, from, e.held, e.stopped);
-    let before = Session {
+    let c = change_of(e);
+    let edit = edit_of(&types, c);
+    if edit.wide {
+        let handed = answer.handed;
+        let before = Session {
+            head,
+            rows: Rows {
+                types,
+                interfaces,
+                streams,
+            },
+            requests: Requests {
+                used: t.used,
+                live,
+                kinds,
+                ids,
+                slots,
+            },
+        };
+        let new = rows_told(handed, body_of(answer, piece, hold));
+        let session = apply(before, from, c, new);
+        return Offered { session, answer };
+    }
+    let used = store(edit, t.used, &mut streams, &mut live, &mut kinds, &mut ids);
+    let place = edit.place;
+    if place < 96 {
+        let q = edit.request;
+        slots[place] = slot_for(q);
+    }
+    let session = Session {
         head,
-        rows,
-        requests: t,
+        rows: Rows {
+            types,
+            interfaces,
+            streams,
+        },
+        requests: Requests {
+            used,
+            live,
+            kinds,
+            ids,
+            slots,
+        },
     };
-    let session = apply(
-        before,
-        from,
-        change_of(e),
-        rows_told(handed, body_of(answer, piece, hold)),
-    );
     Offered { session, answer }
 }
 

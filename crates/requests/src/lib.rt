@@ -7,7 +7,7 @@ ghost use lib.Dec.{eqb, leb, ltb};
 ghost use Rattle.scan.specs.Scan.{exists, tabulated};
 ghost use Rattle.device.specs.Device.{touched};
 ghost use Rattle.requests.specs.declared.Requests.{Requests};
-ghost use Rattle.requests.specs.Requests.{freeSlot, freshRequests, isData, isSome, Free, Id, Settling, placeAt, lowest, foundAt, withRequest, trimmed, without, freed, ends, released, cleared, same, distinct, idsDiffer};
+ghost use Rattle.requests.specs.Requests.{freeSlot, slotOf, freshRequests, isData, isSome, Free, Id, Settling, placeAt, lowest, foundAt, withRequest, trimmed, without, freed, ends, released, cleared, same, distinct, idsDiffer};
 use device::Rows;
 use device::Scope;
 use device::touches_endpoint;
@@ -51,12 +51,22 @@ pub enum Found {
     Nowhere,
 }
 
-fn free_slot() -> Slot
+pub fn free_slot() -> Slot
     ensures { λ r. ⌜ r ≡ freeSlot ⌝ }
 {
     Slot {
         length: 0,
         target: 0,
+    }
+}
+
+// What a place keeps of a request besides its id and kind.
+pub fn slot_for(r: Request) -> Slot
+    ensures { λ s. ⌜ s ≡ slotOf r ⌝ }
+{
+    Slot {
+        length: r.length,
+        target: r.target,
     }
 }
 
@@ -162,10 +172,7 @@ pub fn take(t: Requests, i: usize, r: Request) -> Requests
         u.live[i] = true;
         u.kinds[i] = r.kind;
         u.ids[i] = r.id;
-        u.slots[i] = Slot {
-            length: r.length,
-            target: r.target,
-        };
+        u.slots[i] = slot_for(r);
     }
     u
 }

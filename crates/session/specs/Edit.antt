@@ -1,9 +1,11 @@
 -- A change of at most one row's stream and one place, for callers that keep the parts of a session in locals and store it there.
 -- Assumes nothing: these are definitions.
-use Prim.Native.Nat.{ℕ}
-use mathlib.Core.Bool.{Bool, true, false, cond}
+use Prim.Native.Nat.{ℕ, suc}
+use mathlib.Core.Bool.{Bool, true, false, cond, _||_}
+use mathlib.Core.List.{List}
 use mathlib.Core.Path.{_≡_}
-use lib.Dec.{ltb}
+use lib.ListN.{set}
+use lib.Dec.{leb, ltb}
 use Rattle.scan.specs.Scan.{putAt}
 use Rattle.header.specs.declared.Side.{Side}
 use Rattle.device.specs.declared.Head.{Head}
@@ -13,7 +15,7 @@ use Rattle.device.specs.declared.Scope.the-variants.{Nowhere, Everywhere, OfInt
 use Rattle.device.specs.Device.{withStreams}
 use Rattle.device.specs.Columns.{streamRow}
 use Rattle.requests.specs.declared.Requests.{Requests}
-use Rattle.requests.specs.Requests.{noRequest, withRequest, freed}
+use Rattle.requests.specs.Requests.{noRequest, withRequest, trimmed, freed}
 use Rattle.events.specs.declared.Typed.{Typed}
 use Rattle.events.specs.declared.Typed.the-variants.{Untyped, OfEndpoint, OfMask}
 use Rattle.checks.specs.declared.Change.{Change}
@@ -71,3 +73,21 @@ pub record Edits (d : Rows) (c : Change) (e : Edit) : Type 0 where
   pub head : e .wide ≡ false → (h : Head) (from : Side) → headAfter h from c ≡ h
   pub rows : e .wide ≡ false → (new : Rows) → rowsAfter d c new ≡ rowsEdited d e
   pub requests : e .wide ≡ false → (t : Requests) → requestsAfter t d c ≡ requestsEdited t e
+
+-- ---- an edit stored in columns that are lent
+
+-- a column of 96 with the element of the edit's place set
+abbrev pub placedIn : {A : Type 0} → List A → Edit → A → List A
+placedIn l e x = cond (ltb (e .place) 96) (set l (e .place) x) l
+
+-- what the live places lie below once this place is taken, or is free and these are the live ones
+abbrev pub usedBy : ℕ → ℕ → Bool → List Bool → ℕ
+usedBy used i live lives = cond live (cond (ltb i used || leb 96 i) used (suc i)) (trimmed lives (cond (leb used 96) used 96))
+
+-- what each column is then, and the number that the live places lie below
+pub record Stores (e : Edit) (used : ℕ) (streams live : List Bool) (kinds ids : List ℕ) (used′ : ℕ) (streams′ live′ : List Bool) (kinds′ ids′ : List ℕ) : Type 0 where
+  pub used-is : used′ ≡ cond (ltb (e .place) 96) (usedBy used (e .place) (e .live) (set live (e .place) (e .live))) used
+  pub streams-are : streams′ ≡ cond (ltb (e .row) 32) (set streams (e .row) (e .opens)) streams
+  pub live-are : live′ ≡ placedIn live e (e .live)
+  pub kinds-are : kinds′ ≡ placedIn kinds e (e .request .kind)
+  pub ids-are : ids′ ≡ placedIn ids e (e .request .id)

@@ -1,3 +1,4 @@
 pub mod Session
 pub mod Step
 pub mod Edit
+pub mod Stored

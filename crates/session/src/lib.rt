@@ -5,7 +5,7 @@ ghost use lib.Dec.{ltb};
 ghost use Rattle.device.specs.declared.Rows.{Rows};
 ghost use Rattle.requests.specs.declared.Requests.{Requests};
 ghost use Rattle.requests.specs.Requests.{noRequest, withRequest, released};
-ghost use Rattle.session.specs.Edit.{Moves, wideEdit, Edits};
+ghost use Rattle.session.specs.Edit.{Moves, wideEdit, Edits, Stores};
 ghost use Rattle.session.specs.Session.{freshSession, linkTo, sharedIn, heldIn, countAs, heldTo, heldBad, unfit};
 ghost use Rattle.session.specs.Step.{keptHello, helloTo, deviceTo, introduced, headAfter, streamBy, rowsAfter, requestsAfter, applied};
 use checks::Change;
@@ -394,4 +394,33 @@ pub fn edit_of(types: &[u8; 32], c: Change) -> Edit
             }
         }
     }
+}
+
+// Stores an edit in the columns that it changes, except the slot of its place; what the live places lie below then.
+pub fn store(
+    e: Edit,
+    used: usize,
+    streams: &mut [bool; 32],
+    live: &mut [bool; 96],
+    kinds: &mut [u8; 96],
+    ids: &mut [u64; 96],
+) -> usize
+    ensures { λ r. ⌜ Stores e used (now (streams .entry)) (now (live .entry)) (now (kinds .entry)) (now (ids .entry)) r (now (streams .exit)) (now (live .exit)) (now (kinds .exit)) (now (ids .exit)) ⌝ }
+{
+    let row = e.row;
+    if row < 32 {
+        streams[row] = e.opens;
+    }
+    let place = e.place;
+    let q = e.request;
+    if place < 96 {
+        live[place] = e.live;
+        kinds[place] = q.kind;
+        ids[place] = q.id;
+        if e.live {
+            return requests::used_with(used, place);
+        }
+        return requests::trim(used, live);
+    }
+    used
 }

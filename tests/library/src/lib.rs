@@ -14,12 +14,21 @@ extern "C" {
         out: *mut u8,
         out_size: usize,
     ) -> usize;
+
+    fn drive_in_place(
+        script: *const u8,
+        script_size: usize,
+        holds: *mut u8,
+        holds_size: usize,
+        out: *mut u8,
+        out_size: usize,
+    ) -> usize;
 }
 
 /// Bytes that the library writes for each call.
 pub const RECORD: usize = 26;
 
-/// Runs a script's bytes; tells how many calls were made.
+/// Runs a script's bytes, the session by value through each call; tells how many calls were made.
 pub fn run(script: &[u8], guest: &mut [u8], host: &mut [u8], out: &mut [u8]) -> usize {
     // SAFETY: each pointer comes with the size of the slice it is taken from, and the slices that
     // are written are borrowed alone.
@@ -31,6 +40,21 @@ pub fn run(script: &[u8], guest: &mut [u8], host: &mut [u8], out: &mut [u8]) -> 
             guest.len(),
             host.as_mut_ptr(),
             host.len(),
+            out.as_mut_ptr(),
+            out.len(),
+        )
+    }
+}
+
+/// The same with the session's columns kept and changed in place. The guest's buffer is the first half of `holds`, the host's the second.
+pub fn run_in_place(script: &[u8], holds: &mut [u8], out: &mut [u8]) -> usize {
+    // SAFETY: as above.
+    unsafe {
+        drive_in_place(
+            script.as_ptr(),
+            script.len(),
+            holds.as_mut_ptr(),
+            holds.len(),
             out.as_mut_ptr(),
             out.len(),
         )

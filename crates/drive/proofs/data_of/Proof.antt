@@ -1,6 +1,6 @@
 -- `drive::data_of` meets its contract: by cases of what is handed out.
 -- Assumes nothing.
-use Rattle.drive.proofs.Laws.{data-none, data-passed}
+use Rattle.drive.proofs.Records.{data-none, data-passed}
 use borrow.Author.Needs.{needs}
 use Rattle.drive.proofs.data_of.Statement.{statement}
 use Rattle.drive.proofs.data_of.Tie as tie

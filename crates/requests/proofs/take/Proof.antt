@@ -22,6 +22,9 @@ mul-u c = search needs
 element-write-u-3 : tie.Need-element-write-u-3
 element-write-u-3 c = search needs
 
+slot-for-requires : tie.Need-slot-for-requires
+slot-for-requires c κs = search needs
+
 mul-t6 : tie.Need-mul-t6
 mul-t6 c = search needs
 
@@ -30,9 +33,10 @@ element-set-from-u c = search needs
 
 returns : tie.Need-returns
 returns c =
-    let t = c .before .before .args .t in
+    let a = c .before .before .before .args in
+    let t = a .t in
     let long : Long t = record { live = search needs; kinds = search needs; ids = search needs; slots = search (needs, long-of) } in
-    taken-at t long (c .before .before .args .i) (c .before .before .args .r) (c .used-with .result) (c .used-with .ensures)
+    rw (c .slot-for .ensures) (taken-at t long (a .i) (a .r) (c .before .used-with .result) (c .before .used-with .ensures))
 
 returns-2 : tie.Need-returns-2
 returns-2 c =
@@ -49,6 +53,7 @@ take-spec =
     element-write-u-2
     mul-u
     element-write-u-3
+    slot-for-requires
     mul-t6
     element-set-from-u
     returns

@@ -1,4 +1,4 @@
--- A decision, settled with the slot that it waits for and its change made, is the call (`offered`).
+-- A decision, settled with the slot that it waits for (`settled-is`) and its change made (`made`, `offered`), is the call.
 -- Each step of the code is put in for what it equals; the decision's contract is then the claim.
 -- Assumes nothing.
 use Prim.Native.Nat.{ℕ}
@@ -18,7 +18,7 @@ use Rattle.session.specs.Session.{linkOf, heldTo}
 use Rattle.session.specs.Step.{applied}
 use Rattle.gate.specs.declared.Decided.{Decided}
 use Rattle.gate.specs.Offer.{offerOf, outcome, bodyIn}
-use Rattle.gate.specs.Decide.{concluded, changeIn, rowsIn, sessionAfter, called, Decides}
+use Rattle.gate.specs.Decide.{concluded, changeIn, rowsIn, called, Decides}
 
 -- the decision with the slot of the place that it waits for
 pub settled-is : (s : Session) (d : Decided) {e : Decided} {slot : Slot} {w : ℕ} → w ≡ awaited (d .ruling) → slot ≡ getD (s .requests .slots) w freeSlot → e ≡ concluded d slot
@@ -26,19 +26,23 @@ pub settled-is : (s : Session) (d : Decided) {e : Decided} {slot : Slot} {w : �
 settled-is s d ew es e = e ∙ ap (concluded d) (es ∙ ap (λ (n : ℕ). getD (s .requests .slots) n freeSlot) ew)
 
 module _ (from : Side) (s : Session) (hold piece after : List ℕ) (d : Decided) (decides : Decides from s d hold piece after) {e : Decided}
-    (ee : e ≡ concluded d (getD (s .requests .slots) (awaited (d .ruling)) freeSlot)) where
-  pub made : {x : Session} → x ≡ sessionAfter from s e (rowsIn from s (e .answer .handed) (bytesAt (e .answer .place) (e .answer .size) piece after))
+    (ee : e ≡ concluded d (getD (s .requests .slots) (awaited (d .ruling)) freeSlot)) {h : Head} (eh : h ≡ heldTo from (e .held) (e .stopped) (s .head)) {c : Change}
+    (ec : c ≡ changeIn (e .ruling)) where
+  abbrev bytes : List ℕ
+  bytes = bytesAt (e .answer .place) (e .answer .size) piece after
+
+  -- by its change made
+  pub made : {x : Session} → x ≡ applied (record { head = h; rows = s .rows; requests = s .requests }) from c (rowsIn from s (e .answer .handed) bytes)
       → outcome (linkOf from s) (record { session = x; answer = e .answer }) piece after ≡ offerOf from s hold piece
   unfolding called
   made q =
-      ap (λ (y : Session). outcome (linkOf from s) (record { session = y; answer = e .answer }) piece after) q
+      ap (λ (y : Session). outcome (linkOf from s) (record { session = y; answer = e .answer }) piece after) (q ∙ rw (eh, ec) refl)
       ∙ ap (λ (y : Decided). called from s y piece after) ee
       ∙ decides
 
-  pub offered : {h : Head} {c : Change} {new : Rows} {body : List ℕ} {x : Session} → h ≡ heldTo from (e .held) (e .stopped) (s .head) → c ≡ changeIn (e .ruling)
-      → body ≡ bodyIn (e .answer .handed) (bytesAt (e .answer .place) (e .answer .size) piece after)
+  -- with the rows as the code reads them
+  pub offered : {new : Rows} {body : List ℕ} {x : Session} → body ≡ bodyIn (e .answer .handed) bytes
       → ((from : Side) (s : Session) (bytes : List ℕ) → bodyIn (e .answer .handed) bytes ≡ body → new ≡ rowsIn from s (e .answer .handed) bytes)
       → x ≡ applied (record { head = h; rows = s .rows; requests = s .requests }) from c new
       → outcome (linkOf from s) (record { session = x; answer = e .answer }) piece after ≡ offerOf from s hold piece
-  offered eh ec eb en ex =
-      made (ex ∙ rw (eh, ec, en from s (bytesAt (e .answer .place) (e .answer .size) piece after) (sym eb)) refl)
+  offered eb en ex = made (ex ∙ ap (applied (record { head = h; rows = s .rows; requests = s .requests }) from c) (en from s bytes (sym eb)))
