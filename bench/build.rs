@@ -1,4 +1,4 @@
-//! With the feature `parser`, links the host of libusbredirparser.
+//! With the feature `parser`, links the host of libusbredirparser; with the feature `entry`, the archive of `bench/entry` in ENTRY_DIR.
 
 use std::env;
 use std::path::PathBuf;
@@ -7,6 +7,12 @@ use std::process::Command;
 fn main() {
     if env::var_os("CARGO_FEATURE_PARSER").is_some() {
         link_parser();
+    }
+    if env::var_os("CARGO_FEATURE_ENTRY").is_some() {
+        println!("cargo:rerun-if-env-changed=ENTRY_DIR");
+        let directory = PathBuf::from(env::var_os("ENTRY_DIR").expect("the archive's directory"));
+        println!("cargo:rustc-link-search=native={}", directory.display());
+        println!("cargo:rustc-link-lib=static=drive_by_entry");
     }
 }
 

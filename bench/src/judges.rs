@@ -1,4 +1,4 @@
-//! The three that judge the traffic: the proved gate, the plain one, and libusbredirparser.
+//! Those who judge the traffic: the plain gate, the proved one by each of its callers, and libusbredirparser.
 
 use library::{record_of, RECORD};
 use plain::{offer, Session, Side, HOLD_SIZE};
@@ -48,14 +48,38 @@ pub fn script_of(traffic: &Traffic) -> Script {
     script
 }
 
-/// The proved gate, by its static library.
-pub fn by_gate(script: &Script, holds: &mut [Vec<u8>; 2], out: &mut [u8]) -> usize {
-    let [guest, host] = holds;
-    library::run(&script.bytes, guest, host, out)
+/// The proved gate, with the session's columns changed in place. Not inlined, as those below, so that each can be counted by itself.
+#[inline(never)]
+pub fn by_gate(script: &Script, holds: &mut [u8], out: &mut [u8]) -> usize {
+    library::run(&script.bytes, holds, out)
+}
+
+/// The proved gate, with the session by value.
+#[inline(never)]
+pub fn by_value(script: &Script, holds: &mut [u8], out: &mut [u8]) -> usize {
+    library::run_by_value(&script.bytes, holds, out)
+}
+
+/// The proved gate by its entry, in a caller that is not proved.
+#[cfg(feature = "entry")]
+#[inline(never)]
+pub fn by_entry(script: &Script, holds: &mut [u8], out: &mut [u8]) -> usize {
+    #[repr(C)]
+    struct Slice(*const u8, usize);
+    extern "C" {
+        fn drive_by_entry(script: *const Slice, holds: *const Slice, out: *const Slice) -> usize;
+    }
+    let script = Slice(script.bytes.as_ptr(), script.bytes.len());
+    let holds = Slice(holds.as_mut_ptr(), holds.len());
+    let out = Slice(out.as_mut_ptr(), out.len());
+    // SAFETY: each pointer comes with the size of the slice it is taken from, and the slices that are written are borrowed alone.
+    unsafe { drive_by_entry(&script, &holds, &out) }
 }
 
 /// The plain gate: the same calls, the same records.
-pub fn by_plain(script: &Script, holds: &mut [Vec<u8>; 2], out: &mut [u8]) -> usize {
+#[inline(never)]
+pub fn by_plain(script: &Script, holds: &mut [u8], out: &mut [u8]) -> usize {
+    let (guest, host) = holds.split_at_mut(HOLD_SIZE);
     let mut session = Session::new();
     let mut rest = &script.bytes[..];
     let mut calls = 0;
@@ -64,17 +88,12 @@ pub fn by_plain(script: &Script, holds: &mut [Vec<u8>; 2], out: &mut [u8]) -> us
             break;
         }
         let size = u32::from_le_bytes([rest[1], rest[2], rest[3], rest[4]]) as usize;
-        let from = if rest[0] == 0 {
-            Side::Guest
+        let (from, hold) = if rest[0] == 0 {
+            (Side::Guest, &mut *guest)
         } else {
-            Side::Host
+            (Side::Host, &mut *host)
         };
-        let answer = offer(
-            &mut session,
-            from,
-            &mut holds[from as usize],
-            &rest[5..5 + size],
-        );
+        let answer = offer(&mut session, from, hold, &rest[5..5 + size]);
         record.copy_from_slice(&record_of(&answer));
         rest = &rest[5 + size..];
         calls += 1;

@@ -1,9 +1,10 @@
 //! The proved gate beside a plain one and libusbredirparser, in one run on one machine.
 //!
-//! `bench [DIVISOR [INDEX]]`: with a divisor there is so much less traffic, with an index only that one, counted from 0. Prints a line
+//! `bench [DIVISOR [INDEX [JUDGE]]]`: with a divisor there is so much less traffic, with an index only that one, counted from 0. Prints a line
 //! for each traffic and judge: the best time of some rounds, GB/s, packets/s, and the time as a multiple of the plain gate's. The last
-//! line is `N passed, M failed`: the gate and the plain gate told the same of every call and left the same buffers, and
-//! libusbredirparser, where it takes part, handed out as many packets.
+//! line is `N passed, M failed`: the gate by each of its callers and the plain gate told the same of every call and left the same buffers, and
+//! libusbredirparser, where it takes part, handed out as many packets. With the name of a judge it makes the calls of that traffic once and
+//! prints how many there were: for counting instructions.
 
 mod judges;
 mod traffic;
@@ -17,19 +18,32 @@ use library::RECORD;
 use plain::HOLD_SIZE;
 use tools::{ensure, Report};
 
-use judges::{by_gate, by_plain, script_of, Script};
+use judges::{by_gate, by_plain, by_value, script_of, Script};
 use traffic::{bulk_transfers, capture, interrupts, Traffic};
 
-const ROUNDS: usize = 5;
+const ROUNDS: usize = 11;
 
-type Judge = fn(&Script, &mut [Vec<u8>; 2], &mut [u8]) -> usize;
+type Judge = fn(&Script, &mut [u8], &mut [u8]) -> usize;
+
+const GATES: &[(&str, Judge)] = &[
+    ("plain", by_plain),
+    ("gate", by_gate),
+    ("by value", by_value),
+    #[cfg(feature = "entry")]
+    ("entry", judges::by_entry),
+];
 
 fn main() -> ExitCode {
-    let mut numbers = std::env::args()
-        .skip(1)
-        .map(|text| text.parse().expect("bench [DIVISOR [INDEX]]"));
-    let divisor: usize = numbers.next().unwrap_or(1);
-    let only = numbers.next();
+    let mut words = std::env::args().skip(1);
+    let mut number = || {
+        let word = words.next()?;
+        Some(word.parse().expect("bench [DIVISOR [INDEX [JUDGE]]]"))
+    };
+    let divisor: usize = number().unwrap_or(1);
+    let only = number();
+    if let (Some(at), Some(judge)) = (only, words.next()) {
+        return count(&traffic(at, divisor).expect("a traffic"), &judge);
+    }
     let mut report = Report::default();
     for at in only.unwrap_or(0)..only.map_or(usize::MAX, |index| index + 1) {
         let Some(traffic) = traffic(at, divisor) else {
@@ -57,7 +71,25 @@ fn traffic(at: usize, divisor: usize) -> Option<Traffic> {
     })
 }
 
-/// Times all judges on one traffic; passes where the two gates agree.
+/// Makes the calls of one traffic once, by one judge.
+fn count(traffic: &Traffic, judge: &str) -> ExitCode {
+    let script = script_of(traffic);
+    let (_, judge) = GATES
+        .iter()
+        .find(|(name, _)| *name == judge)
+        .expect("a judge");
+    let mut out = vec![0; script.calls * RECORD];
+    let calls = judge(black_box(&script), &mut holds(), &mut out);
+    println!("{} calls: {}", calls, traffic.name);
+    ExitCode::SUCCESS
+}
+
+/// Both holding buffers.
+fn holds() -> Vec<u8> {
+    vec![0; 2 * HOLD_SIZE]
+}
+
+/// Times all judges on one traffic; passes where the gates agree.
 fn measure(traffic: &Traffic) -> Result<(), String> {
     let script = script_of(traffic);
     let bytes: usize = traffic.pieces.iter().map(|piece| piece.bytes.len()).sum();
@@ -65,12 +97,11 @@ fn measure(traffic: &Traffic) -> Result<(), String> {
         "{}: {} packets pass, {} are refused, {bytes} bytes, {} calls; {} times",
         traffic.name, script.packets, script.refused, script.calls, traffic.times
     );
-    let gates: [(&str, Judge); 2] = [("plain", by_plain), ("gate", by_gate)];
     let mut told = Vec::new();
-    let mut best = [Duration::MAX; 2];
+    let mut best = vec![Duration::MAX; GATES.len()];
     for round in 0..ROUNDS {
-        for (at, (_, judge)) in gates.iter().enumerate() {
-            let mut holds = [vec![0; HOLD_SIZE], vec![0; HOLD_SIZE]];
+        for (at, (_, judge)) in GATES.iter().enumerate() {
+            let mut holds = holds();
             let mut out = vec![0; script.calls * RECORD];
             let start = Instant::now();
             for _ in 0..traffic.times {
@@ -94,7 +125,7 @@ fn measure(traffic: &Traffic) -> Result<(), String> {
             time.as_secs_f64() / best[0].as_secs_f64()
         );
     };
-    for ((name, _), time) in gates.iter().zip(best) {
+    for ((name, _), time) in GATES.iter().zip(best.clone()) {
         line(name, time);
     }
     #[cfg(feature = "parser")]
@@ -113,5 +144,7 @@ fn measure(traffic: &Traffic) -> Result<(), String> {
             format!("libusbredirparser hands out {handed} packets, and not {packets}")
         })?;
     }
-    ensure(told[0] == told[1], || "the two gates differ".to_string())
+    ensure(told.iter().all(|other| *other == told[0]), || {
+        "the gates differ".to_string()
+    })
 }

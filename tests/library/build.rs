@@ -1,4 +1,4 @@
-//! Links the archive of the proved gate. `DRIVE_DIR` names another directory, say one with an archive that is wrong on
+//! Links the two archives of the proved gate. `DRIVE_DIR` names another directory, say one with archives that are wrong on
 //! purpose.
 
 use std::env;
@@ -6,5 +6,7 @@ use std::path::PathBuf;
 
 fn main() {
     println!("cargo:rerun-if-env-changed=DRIVE_DIR");
-    tools::link("drive", env::var_os("DRIVE_DIR").map(PathBuf::from));
+    for name in ["drive", "drive_by_value"] {
+        tools::link(name, env::var_os("DRIVE_DIR").map(PathBuf::from));
+    }
 }

@@ -26,8 +26,7 @@ pub fn files() -> Vec<PathBuf> {
 pub fn script(capture: &Path) -> (Script, bool) {
     let text = fs::read_to_string(capture).expect("a capture can be read");
     let mut script = Script {
-        guest_size: HOLD_SIZE,
-        host_size: HOLD_SIZE,
+        hold_size: HOLD_SIZE,
         fill: 0,
         items: Vec::new(),
     };

@@ -1,33 +1,36 @@
-//! The proved gate, as a C function.
+//! The proved gate, as two C functions: with the session changed in place, and by value.
 
 use crate::script::{difference, Call, Outcome, Script};
 
-pub use library::{run, RECORD};
+pub use library::{run, run_by_value, Run, RECORD};
 
-pub fn by_drive(script: &Script) -> Outcome {
-    let (mut guest, mut host) = script.buffers();
+pub fn by_drive(run: Run, script: &Script) -> Outcome {
+    let mut holds = script.holds();
     let mut out = vec![0; script.items.len() * RECORD];
-    let made = run(&script.bytes(), &mut guest, &mut host, &mut out);
+    let made = run(&script.bytes(), &mut holds, &mut out);
     let calls = out.chunks(RECORD).take(made).map(Call::read).collect();
-    Outcome { calls, guest, host }
+    Outcome { calls, holds }
 }
 
-/// Runs a script through both. Where they differ: in what, with a script that shows it and is as
+/// Where a function of the library differs from the plain gate on a script.
+fn differs(script: &Script) -> Option<String> {
+    let plain = script.by_plain();
+    [run as Run, run_by_value]
+        .iter()
+        .find_map(|run| difference(&plain, &by_drive(*run, script)))
+}
+
+/// Runs a script through all. Where they differ: in what, with a script that shows it and is as
 /// short as leaving out calls makes it.
 pub fn compare(script: &Script) -> Result<Outcome, String> {
-    let plain = script.by_plain();
-    match difference(&plain, &by_drive(script)) {
-        None => Ok(plain),
+    match differs(script) {
+        None => Ok(script.by_plain()),
         Some(_) => {
             let small = shrink(script.clone());
-            let what = difference(&small.by_plain(), &by_drive(&small)).unwrap_or_default();
+            let what = differs(&small).unwrap_or_default();
             Err(format!("{what}\n{}", small.lines()))
         }
     }
-}
-
-fn differs(script: &Script) -> bool {
-    difference(&script.by_plain(), &by_drive(script)).is_some()
 }
 
 /// Leaves out calls, in ever smaller runs, as long as the two still differ.
@@ -39,7 +42,7 @@ fn shrink(mut script: Script) -> Script {
             let mut shorter = script.clone();
             let end = (at + run).min(shorter.items.len());
             shorter.items.drain(at..end);
-            if differs(&shorter) {
+            if differs(&shorter).is_some() {
                 script = shorter;
             } else {
                 at += run;

@@ -18,7 +18,7 @@ use plain::{Side, HOLD_SIZE};
 use tools::{Random, Report};
 
 use delivery::{deliver, Mode};
-use drive::{by_drive, compare, RECORD};
+use drive::{by_drive, compare, run, run_by_value, Run, RECORD};
 use script::{Item, Line, Script};
 use traffic::{plan, shared_sets, Sent, Style};
 
@@ -62,7 +62,7 @@ fn main() -> ExitCode {
     report.finish()
 }
 
-/// The sizes of the two buffers: mostly just enough.
+/// The size of each of the two buffers: mostly just enough.
 fn buffer_size(random: &mut Random) -> usize {
     match random.below(80) {
         0 => HOLD_SIZE - 1,
@@ -115,8 +115,7 @@ fn differential(seed: u64, counts: &mut BTreeMap<u8, usize>) -> Result<String, S
 
 fn generated(random: &mut Random, style: &Style) -> Script {
     let script = Script {
-        guest_size: buffer_size(random),
-        host_size: buffer_size(random),
+        hold_size: buffer_size(random),
         fill: random.next(),
         items: Vec::new(),
     };
@@ -179,8 +178,7 @@ fn cuts(seed: u64) -> Result<String, String> {
         style.packets = style.packets.min(120);
         let planned = plan(&mut random, &style);
         let fresh = Script {
-            guest_size: HOLD_SIZE,
-            host_size: HOLD_SIZE,
+            hold_size: HOLD_SIZE,
             fill: random.next(),
             items: Vec::new(),
         };
@@ -222,7 +220,7 @@ fn events(script: &Script) -> Vec<Sent> {
 
 /// What the proved gate answers to a script, other than 1, 2 and 3, without what depends on cuts.
 fn answers(script: &Script) -> Vec<(Side, u8, u32, u32, u32, u64)> {
-    let told = by_drive(script);
+    let told = by_drive(run, script);
     script
         .items
         .iter()
@@ -248,8 +246,7 @@ fn ends() -> Result<String, String> {
         piece: vec![0x11; size],
     };
     let script = Script {
-        guest_size: HOLD_SIZE,
-        host_size: HOLD_SIZE,
+        hold_size: HOLD_SIZE,
         fill: 7,
         items: vec![
             item(Side::Guest, 3),
@@ -285,18 +282,19 @@ fn ends() -> Result<String, String> {
         ] {
             let whole = starts.iter().filter(|start| **start <= size).count() - 1;
             let expected = whole.min(room / RECORD);
-            let (mut guest, mut host) = script.buffers();
-            let mut out = vec![0xaa; room];
-            let made = drive::run(&bytes[..size], &mut guest, &mut host, &mut out);
-            if made != expected {
-                return Err(format!(
-                    "{size} bytes of script, {room} of output: {made} calls, not {expected}"
-                ));
-            }
-            if out[made * RECORD..].iter().any(|byte| *byte != 0xaa) {
-                return Err(format!(
-                    "{size} bytes of script, {room} of output: written behind the last record"
-                ));
+            for run in [run as Run, run_by_value] {
+                let mut out = vec![0xaa; room];
+                let made = run(&bytes[..size], &mut script.holds(), &mut out);
+                if made != expected {
+                    return Err(format!(
+                        "{size} bytes of script, {room} of output: {made} calls, not {expected}"
+                    ));
+                }
+                if out[made * RECORD..].iter().any(|byte| *byte != 0xaa) {
+                    return Err(format!(
+                        "{size} bytes of script, {room} of output: written behind the last record"
+                    ));
+                }
             }
             runs += 1;
         }

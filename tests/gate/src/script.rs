@@ -1,5 +1,7 @@
 //! Scripts of reader calls, and what came of them.
 
+use std::ops::Range;
+
 use library::record_of;
 use plain::{offer, Session, Side};
 use tools::{hex, Random};
@@ -14,8 +16,8 @@ pub struct Item {
 /// A fresh session, two holding buffers, and reader calls.
 #[derive(Clone)]
 pub struct Script {
-    pub guest_size: usize,
-    pub host_size: usize,
+    /// Of each of the two.
+    pub hold_size: usize,
     /// What the buffers hold before.
     pub fill: u64,
     pub items: Vec<Item>,
@@ -37,8 +39,7 @@ pub struct Call {
 #[derive(PartialEq, Eq)]
 pub struct Outcome {
     pub calls: Vec<Call>,
-    pub guest: Vec<u8>,
-    pub host: Vec<u8>,
+    pub holds: Vec<u8>,
 }
 
 impl Script {
@@ -57,10 +58,9 @@ impl Script {
         bytes
     }
 
-    /// The buffers as they are before the first call.
-    pub fn buffers(&self) -> (Vec<u8>, Vec<u8>) {
-        let mut random = Random::new(self.fill);
-        (random.bytes(self.guest_size), random.bytes(self.host_size))
+    /// The buffers as they are before the first call: the guest's, the host's and, for some scripts, a byte that is in neither.
+    pub fn holds(&self) -> Vec<u8> {
+        Random::new(self.fill).bytes(2 * self.hold_size + (self.fill % 2) as usize)
     }
 
     pub fn by_plain(&self) -> Outcome {
@@ -73,7 +73,7 @@ impl Script {
 
     /// As lines of a report, to be read by people.
     pub fn lines(&self) -> String {
-        let mut text = format!("buffers of {} and {}\n", self.guest_size, self.host_size);
+        let mut text = format!("buffers of {} bytes\n", self.hold_size);
         for item in &self.items {
             let from = match item.from {
                 Side::Guest => "guest",
@@ -89,27 +89,33 @@ impl Script {
 /// A plain session at work, with its two buffers and what was told so far.
 pub struct Line {
     pub session: Session,
-    guest: Vec<u8>,
-    host: Vec<u8>,
+    hold_size: usize,
+    holds: Vec<u8>,
     pub calls: Vec<Call>,
 }
 
 impl Line {
     pub fn new(script: &Script) -> Line {
-        let (guest, host) = script.buffers();
         Line {
             session: Session::new(),
-            guest,
-            host,
+            hold_size: script.hold_size,
+            holds: script.holds(),
             calls: Vec::new(),
         }
     }
 
-    pub fn call(&mut self, from: Side, piece: &[u8]) -> Call {
-        let hold = match from {
-            Side::Guest => &mut self.guest,
-            Side::Host => &mut self.host,
+    /// Where a side's own buffer stands.
+    fn own(&self, from: Side) -> Range<usize> {
+        let start = match from {
+            Side::Guest => 0,
+            Side::Host => self.hold_size,
         };
+        start..start + self.hold_size
+    }
+
+    pub fn call(&mut self, from: Side, piece: &[u8]) -> Call {
+        let own = self.own(from);
+        let hold = &mut self.holds[own];
         let answer = offer(&mut self.session, from, hold, piece);
         let call = Call::read(&record_of(&answer));
         self.calls.push(call);
@@ -119,10 +125,7 @@ impl Line {
     /// The bytes of the packet, or refused header, that the last call told of.
     pub fn told(&self, from: Side, piece: &[u8]) -> Vec<u8> {
         let call = self.calls.last().expect("a call was made");
-        let hold = match from {
-            Side::Guest => &self.guest,
-            Side::Host => &self.host,
-        };
+        let hold = &self.holds[self.own(from)];
         match call.place {
             1 => piece[..call.size as usize].to_vec(),
             2 => hold[..call.size as usize].to_vec(),
@@ -133,8 +136,7 @@ impl Line {
     pub fn outcome(self) -> Outcome {
         Outcome {
             calls: self.calls,
-            guest: self.guest,
-            host: self.host,
+            holds: self.holds,
         }
     }
 }
@@ -174,20 +176,13 @@ pub fn difference(plain: &Outcome, drive: &Outcome) -> Option<String> {
             drive.calls.len()
         ));
     }
-    for (name, left, right) in [
-        ("guest", &plain.guest, &drive.guest),
-        ("host", &plain.host, &drive.host),
-    ] {
-        if let Some(at) = left
-            .iter()
-            .zip(right)
-            .position(|(left, right)| left != right)
-        {
-            return Some(format!(
-                "{name}'s buffer at {at}: plain {:02x}, drive {:02x}",
-                left[at], right[at]
-            ));
-        }
-    }
-    None
+    let at = plain
+        .holds
+        .iter()
+        .zip(&drive.holds)
+        .position(|(left, right)| left != right)?;
+    Some(format!(
+        "buffers at {at}: plain {:02x}, drive {:02x}",
+        plain.holds[at], drive.holds[at]
+    ))
 }

@@ -87,8 +87,7 @@ fn words(random: &mut Random, shared: u32) -> (u32, u32) {
 /// Packets in their order.
 pub fn plan(random: &mut Random, style: &Style) -> Vec<Sent> {
     let script = Script {
-        guest_size: HOLD_SIZE,
-        host_size: HOLD_SIZE,
+        hold_size: HOLD_SIZE,
         fill: 0,
         items: Vec::new(),
     };

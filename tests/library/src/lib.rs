@@ -7,15 +7,13 @@ extern "C" {
     fn drive(
         script: *const u8,
         script_size: usize,
-        guest: *mut u8,
-        guest_size: usize,
-        host: *mut u8,
-        host_size: usize,
+        holds: *mut u8,
+        holds_size: usize,
         out: *mut u8,
         out_size: usize,
     ) -> usize;
 
-    fn drive_in_place(
+    fn drive_by_value(
         script: *const u8,
         script_size: usize,
         holds: *mut u8,
@@ -28,29 +26,30 @@ extern "C" {
 /// Bytes that the library writes for each call.
 pub const RECORD: usize = 26;
 
-/// Runs a script's bytes, the session by value through each call; tells how many calls were made.
-pub fn run(script: &[u8], guest: &mut [u8], host: &mut [u8], out: &mut [u8]) -> usize {
+/// Runs a script's bytes, and tells how many calls were made. The guest's holding buffer is the first half of `holds`, the host's the second.
+pub type Run = fn(script: &[u8], holds: &mut [u8], out: &mut [u8]) -> usize;
+
+/// With the session's columns kept, and changed in place.
+pub fn run(script: &[u8], holds: &mut [u8], out: &mut [u8]) -> usize {
     // SAFETY: each pointer comes with the size of the slice it is taken from, and the slices that
     // are written are borrowed alone.
     unsafe {
         drive(
             script.as_ptr(),
             script.len(),
-            guest.as_mut_ptr(),
-            guest.len(),
-            host.as_mut_ptr(),
-            host.len(),
+            holds.as_mut_ptr(),
+            holds.len(),
             out.as_mut_ptr(),
             out.len(),
         )
     }
 }
 
-/// The same with the session's columns kept and changed in place. The guest's buffer is the first half of `holds`, the host's the second.
-pub fn run_in_place(script: &[u8], holds: &mut [u8], out: &mut [u8]) -> usize {
-    // SAFETY: as above.
+/// With the session by value through each call.
+pub fn run_by_value(script: &[u8], holds: &mut [u8], out: &mut [u8]) -> usize {
+    // SAFETY: as for `run`.
     unsafe {
-        drive_in_place(
+        drive_by_value(
             script.as_ptr(),
             script.len(),
             holds.as_mut_ptr(),
