@@ -1,2 +1,4 @@
 pub mod Drive
 pub mod Steps
+pub mod Records
+pub mod Laws

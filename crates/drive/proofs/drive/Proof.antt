@@ -18,14 +18,15 @@ use Rattle.session.specs.declared.Session.{Session}
 use Rattle.session.specs.Stored.{Sized, placed, unplaced}
 use Rattle.gate.specs.Settled.{settled-is}
 use Rattle.drive.specs.Drive.{halfOf}
-use Rattle.drive.proofs.Records.{laid-back}
-use Rattle.drive.proofs.Laws.{sessionOf, half-within, Leaves, wide-leaves, narrow-leaves, Driving, drive-starts, drive-goes-on, drive-short, drive-full}
+use Rattle.drive.specs.Records.{laid-back}
+use Rattle.drive.specs.Laws.{half-within, drive-goes-on, drive-short, drive-full}
+use Rattle.drive.proofs.Laws.{sessionOf, Leaves, wide-leaves, narrow-leaves, Keeping, keeping-starts}
 use Rattle.drive.proofs.drive.Statement.{statement}
 use Rattle.drive.proofs.drive.Tie as tie
 
 abbrev Inv-loop : tie.InvT-loop
 Inv-loop script holds₀ out₀ h₀ types₀ interfaces₀ streams₀ used₀ live₀ kinds₀ ids₀ slots₀ at₀ k₀ room half holds out h types interfaces streams used live kinds ids slots at k =
-    Driving script holds₀ out₀ holds out (sessionOf h types interfaces streams used live kinds ids slots) at k
+    Keeping script holds₀ out₀ holds out (sessionOf h types interfaces streams used live kinds ids slots) at k
 
 abbrev μ-loop : tie.MeasureT-loop
 μ-loop script holds₀ out₀ h₀ types₀ interfaces₀ streams₀ used₀ live₀ kinds₀ ids₀ slots₀ at₀ k₀ room half holds out h types interfaces streams used live kinds ids slots at k =
@@ -68,7 +69,7 @@ fresh-session-requires : tie.Need-fresh-session-requires Inv-loop μ-loop
 fresh-session-requires c κs = search needs
 
 loop-holds : tie.Need-loop-holds Inv-loop μ-loop
-loop-holds c = drive-starts (c .before .before .before .before .before .before .before .before .before .before .fresh-session .ensures)
+loop-holds c = keeping-starts (c .before .before .before .before .before .before .before .before .before .before .fresh-session .ensures)
 
 sub-rest : tie.Need-sub-rest Inv-loop μ-loop
 sub-rest c = search needs
@@ -97,7 +98,7 @@ same-length-2 c = search needs
 returns : tie.Need-returns Inv-loop μ-loop
 returns c =
     let l = c .before .before .before .before in
-    drive-short (l .loop .inv) (part-to-end (start l .args .script .now) (l .loop .at)) (c .before .get32 .ensures) (c .if1 .taken)
+    drive-short (l .loop .inv .driving) (part-to-end (start l .args .script .now) (l .loop .at)) (c .before .get32 .ensures) (c .if1 .taken)
 
 get8-requires : tie.Need-get8-requires Inv-loop μ-loop
 get8-requires c κs = search needs
@@ -114,10 +115,10 @@ base-of-requires c κs = search needs
 -- the sender's half ends in the buffer, so that its end is a number
 half-fits : (c : tie.After-base-of Inv-loop μ-loop) → end c ≤ length (looped (item c) .loop .holds)
 half-fits c =
-    omega (arith, c .base-of .ensures, half-within (c .before .before .side-of .result) (start (looped (item c)) .args .holds .now), looped (item c) .loop .inv .holds-length)
+    omega (arith, c .base-of .ensures, half-within (c .before .before .side-of .result) (start (looped (item c)) .args .holds .now), looped (item c) .loop .inv .driving .holds-length)
 
 half-number : (c : tie.After-base-of Inv-loop μ-loop) → end c < 2 ^ 64
-half-number c = omega (arith, half-fits c, looped (item c) .loop .inv .holds-length)
+half-number c = omega (arith, half-fits c, looped (item c) .loop .inv .driving .holds-length)
 
 add-hold : tie.Need-add-hold Inv-loop μ-loop
 add-hold c = omega (arith, half-number c)
@@ -206,7 +207,7 @@ mul-put-record : tie.Need-mul-put-record Inv-loop μ-loop
 mul-put-record c = let i = item (based (decided (c .before .before))) in omega (arith, record-ends (i .before .before .before))
 
 put-record-requires : tie.Need-put-record-requires Inv-loop μ-loop
-put-record-requires c κs = let i = item (based (decided (c .before .before))) in omega (arith, record-ends (i .before .before .before), looped i .loop .inv .out-length, i .before .before .before .loop-test .taken)
+put-record-requires c κs = let i = item (based (decided (c .before .before))) in omega (arith, record-ends (i .before .before .before), looped i .loop .inv .driving .out-length, i .before .before .before .loop-test .taken)
 
 -- an item that is whole ends in the script, so that its end is a number
 item-ends : (c : tie.Else1 Inv-loop μ-loop) → looped c .loop .at + (5 + c .before .get32 .result) < 2 ^ 64
@@ -287,7 +288,11 @@ loop-again c =
     let b = based k in
     let i = item b in
     let l = looped i in
-    drive-goes-on (l .loop .inv) _ (i .before .before .before .loop-test .taken) (part-to-end (start l .args .script .now) (l .loop .at)) (i .before .get32 .ensures) (i .if1 .left) (b .before .before .before .get8 .ensures) (b .before .before .side-of .ensures) (b .before .part .ensures) (b .base-of .ensures) (sym (drop-take (b .base-of .result) (end b) (l .loop .holds))) (left j) (laid-back (l .loop .holds) (after k) (b .base-of .result) (end b) (omega arith) (half-fits b) (as-long k)) (c .before .before .put-record .ensures)
+    record {
+      driving =
+          drive-goes-on (l .loop .inv .driving) (j .before .before .before .before .before .before .settle .result .answer) (i .before .before .before .loop-test .taken) (part-to-end (start l .args .script .now) (l .loop .at)) (i .before .get32 .ensures) (i .if1 .left) (b .before .before .before .get8 .ensures) (b .before .before .side-of .ensures) (b .before .part .ensures) (b .base-of .ensures) (sym (drop-take (b .base-of .result) (end b) (l .loop .holds))) (left j .tells) (laid-back (l .loop .holds) (after k) (b .base-of .result) (end b) (omega arith) (half-fits b) (as-long k)) (c .before .before .put-record .ensures);
+      sized = left j .sized;
+    }
 
 same-length-3 : tie.Need-same-length-3 Inv-loop μ-loop
 same-length-3 c = search needs
@@ -296,7 +301,7 @@ same-length-4 : tie.Need-same-length-4 Inv-loop μ-loop
 same-length-4 c = search needs
 
 returns-2 : tie.Need-returns-2 Inv-loop μ-loop
-returns-2 c = drive-full (c .before .loop .inv) (c .loop-test .left)
+returns-2 c = drive-full (c .before .loop .inv .driving) (c .loop-test .left)
 
 pub drive-spec : {M : Type 1} → statement M
 drive-spec =
