@@ -29,7 +29,7 @@ pub struct Slot {
     pub target: u8,
 }
 
-// All zero where a place is free.
+// The table in columns. From `fresh` on, all is zero where a place is free; what stands at `used` and above is not looked at.
 pub struct Requests {
     // live places lie below it; over 96 it reads as 96
     pub used: usize,

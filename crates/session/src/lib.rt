@@ -217,7 +217,7 @@ fn introduce(h: Head, i: Introduction) -> Head
 }
 
 // The head after a packet that passed.
-pub fn head_after(h: Head, from: Side, c: Change) -> Head
+fn head_after(h: Head, from: Side, c: Change) -> Head
     ensures { λ r. ⌜ r ≡ headAfter h from c ⌝ }
 {
     let introduction = h.introduction;
