@@ -155,7 +155,7 @@ pub extern "C" fn drive(script: &[u8], holds: &mut [u8], out: &mut [u8]) -> usiz
         h = hold_to(h, from, e.held, e.stopped);
         if edit.wide {
             let handed = answer.handed;
-            // lent anew: of a `&mut` part that a slice is cut from, the prover knows no bytes
+            // lent once more, to be read
             let held = &holds[base..base + half];
             let new = rows_told(handed, body_of(answer, piece, held));
             let s = apply(
