@@ -5,7 +5,7 @@
 -- kind numbers; what ends with a 9 is of its interface, since only an 11 answers it, and names that (`same-interface`).
 -- Assumes nothing.
 use Prim.Native.Nat.{ℕ, _≤_, _<_}
-use mathlib.Core.Bool.{Bool, true, false, cond, not, _&&_, false≢true}
+use mathlib.Core.Bool.{Bool, true, false, cond, not, _&&_, _||_, or-true, false≢true}
 use mathlib.Core.List.{List, [], _∷_}
 use mathlib.Core.Logic.{_↔_, _⊎_, inl, inr}
 use mathlib.Core.Option.{Option, none, some}
@@ -24,7 +24,8 @@ use Rattle.device.specs.declared.Scope.the-variants.{OfInterface}
 use Rattle.device.specs.Device.{touched}
 use Rattle.requests.specs.declared.Request.{Request}
 use Rattle.requests.specs.Requests.{isSome, Query, Free, Id, Settling, Answered, freePlace, taken, isData, answers, lowest, placeAt, ends, idsDiffer}
-use Rattle.requests.specs.Laws.{differ-when}
+use Rattle.requests.specs.Laws.{differ-when, live-within}
+use Rattle.requests.specs.Clean.{Zeroed}
 use Rattle.kinds.specs.RoundTrip.{clean}
 use Rattle.events.specs.Meaning.{meanings, lookUp}
 use Rattle.events.specs.Event.{Event, field, meaningOf, targetOf, eventOf}
@@ -73,6 +74,9 @@ pub record Consumes (s : Session) (p : Content) (next : Session) (i : ℕ) : Typ
   pub others : (j : ℕ) → (j ≡ i → ⊥) → (placeAt (next .requests) j ≡ placeAt (s .requests) j) ⊎ (EndsWith s p i j × (placeAt (next .requests) j ≡ freePlace))
   -- and those are freed
   pub ended : (j : ℕ) → (j ≡ i → ⊥) → EndsWith s p i j → placeAt (next .requests) j ≡ freePlace
+  -- "A freed place is as at the start": nothing is left of the request that was there
+  pub zeroed : Zeroed (next .requests) i
+  pub ended-zeroed : (j : ℕ) → EndsWith s p i j → Zeroed (next .requests) j
 
 -- a reply to a session in which no request with its id waits
 pub record LateReply (s : Session) (from : Side) (p : Content) : Type 0 where
@@ -243,6 +247,8 @@ module _ (s : Session) (from : Side) (p : Content) (w : wireNumber (linkOf from 
                   (λ x. inr (ends-too i a j x, f .others j n ∙ rw x))
                   (λ x. inl (f .others j n ∙ rw x));
               ended = λ j n x. f .others j n ∙ rw (too-ends i a j x);
+              zeroed = f .zeroed i (f .within) (rw (eq-eqb i i refl));
+              ended-zeroed = λ j x. f .zeroed j (live-within (s .requests) j (x .live)) (ap (λ (b : Bool). eqb j i || b) (too-ends i a j x) ∙ or-true (eqb j i));
             }
 
         go : (o : Option ℕ) → lowest (s .requests) query ≡ o → ((i : ℕ) × Consumes s p (judged s e .session) i) ⊎ (Unsolicited (s .requests) p × (judged s e .session .requests ≡ s .requests))

@@ -60,6 +60,17 @@ pub ids :
 unfolding unfit freshRequests withRequest idsDiffer distinct liveIds exists placeAt placesOf tabulated startRows
 ids = (refl, refl, refl, refl)
 
+-- requests with one id at places 0 and 95, both marked live, with this `used`
+abbrev usedTo : ℕ → Bool
+usedTo n =
+    let t = withRequest (withRequest freshRequests 0 (request 7 5)) 95 (request 7 5) in
+    unfitWith (record { used = n; live = t .live; kinds = t .kinds; ids = t .ids; slots = t .slots })
+
+-- places are live below `used`, and more than 96 is read as 96
+pub live-below-used : (usedTo 0 ≡ false) × (usedTo 95 ≡ false) × (usedTo 96 ≡ true) × (usedTo 97 ≡ true)
+unfolding unfit freshRequests withRequest idsDiffer distinct liveIds exists placeAt placesOf tabulated startRows
+live-below-used = (refl, refl, refl, refl)
+
 abbrev typed : ℕ → ℕ → Bool
 typed r k = unfit (sessionWith (Passed 0) (Passed 0) 0 0 (record { types = set (startRows .types) r k; interfaces = startRows .interfaces; streams = startRows .streams }) freshRequests)
 

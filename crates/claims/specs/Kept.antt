@@ -1,5 +1,5 @@
--- What every packet keeps of a session: the ids of live requests differ, rows 0 and 16 are control, a hello that has passed stays, and with both
--- the shared set, and so do whether it is stopped and what it holds; and the start is fit.
+-- What every packet keeps of a session: the ids of live requests differ, free places are as at the start, rows 0 and 16 are control, a hello that
+-- has passed stays, and with both the shared set, and so do whether it is stopped and what it holds; and the start is fit.
 -- A refused packet keeps all; of one that passes, each change of the requests, the rows and the head does, by the laws of each.
 -- Assumes nothing.
 use Prim.Native.Nat.{ℕ}
@@ -29,13 +29,15 @@ use Rattle.device.specs.declared.Head.{Head}
 use Rattle.device.specs.declared.Rows.{Rows}
 use Rattle.device.specs.declared.Introduction.{Introduction}
 use Rattle.device.specs.declared.Introduction.the-variants.{Nothing as Unintroduced, One, Two}
+use Rattle.device.specs.declared.Scope.{Scope}
 use Rattle.device.specs.declared.Scope.the-variants.{Everywhere}
 use Rattle.device.specs.Device.{startHead, controlRows}
 use Rattle.device.specs.Laws.{start-control, closed-control, stream-control, replaced-control}
 use Rattle.requests.specs.declared.Requests.{Requests}
-use Rattle.requests.specs.Requests.{isSome, Free, Id, lowest, withRequest, released, idsDiffer}
+use Rattle.requests.specs.Requests.{isSome, Free, Id, lowest, withRequest, released, cleared, idsDiffer}
 use Rattle.requests.specs.Laws.{fresh-differ, released-differ, cleared-differ, taken-differ}
-use Rattle.kinds.specs.RoundTrip.{Clean, clean}
+use Rattle.requests.specs.Clean.{Clean, fresh-clean, taken-clean, released-clean, cleared-clean}
+use Rattle.kinds.specs.RoundTrip.{Clean as CleanPacket, clean}
 use Rattle.events.specs.declared.Typed.{Typed}
 use Rattle.events.specs.declared.Typed.the-variants.{Untyped, OfEndpoint, OfMask}
 use Rattle.events.specs.Event.{Event, announcedIn, eventOf}
@@ -55,30 +57,46 @@ unused : (o : Option ℕ) → isSome o ≡ false → o ≡ none
 unused none h = refl
 unused (some i) h = absurd (true≢false h)
 
--- where the ids of live requests differ, they still do
-pub kept-ids : (s : Session) (e : Event) → idsDiffer (s .requests) ≡ true → idsDiffer (after s e .requests) ≡ true
-kept-ids s e d = step s e (λ (x : Session). idsDiffer (x .requests) ≡ true) d (λ z. rw (next-requests s e (roleOf (e .class)) (does (e .class))) (by z (roleOf (e .class)) (does (e .class))))
+-- what holds of them before a packet and after each change that it can make holds after it
+kept-by : (s : Session) (e : Event) (P : Requests → Type 0) → P (s .requests)
+    → ((i : ℕ) → lowest (s .requests) Free ≡ some i → lowest (s .requests) (Id (e .request .id)) ≡ none → P (withRequest (s .requests) i (e .request)))
+    → ((i : ℕ) (c : Scope) → P (released (s .requests) i (s .rows) c))
+    → P (cleared (s .requests))
+    → P (after s e .requests)
+kept-by s e P d take release clear = step s e (λ (x : Session). P (x .requests)) d (λ z. rw (next-requests s e (roleOf (e .class)) (does (e .class))) (by z (roleOf (e .class)) (does (e .class))))
   where
     t : Requests
     t = s .requests
 
-    either : (b : Bool) (u : Requests) → idsDiffer u ≡ true → idsDiffer (cond b u t) ≡ true
+    either : (b : Bool) (u : Requests) → P u → P (cond b u t)
     either true u h = h
     either false u h = d
 
-    takes : judged s e .number ≡ 0 → traitsOf (e .class) .request ≡ true → (o : Option ℕ) → lowest t Free ≡ o → idsDiffer (requestsAfter t (s .rows) (Take (placeOr o) (e .request))) ≡ true
+    takes : judged s e .number ≡ 0 → traitsOf (e .class) .request ≡ true → (o : Option ℕ) → lowest t Free ≡ o → P (requestsAfter t (s .rows) (Take (placeOr o) (e .request)))
     takes z h none f = d
     takes z h (some i) f =
         either (ltb i 96) (withRequest t i (e .request))
-        (taken-differ t d i (e .request) f (unused (lowest t (Id (e .request .id))) (fails (traitsOf (e .class) .request) _ (none-held s e z .unused) h)))
+        (take i f (unused (lowest t (Id (e .request .id))) (fails (traitsOf (e .class) .request) _ (none-held s e z .unused) h)))
 
-    by : judged s e .number ≡ 0 → (r : Role) → Does (e .class) r → idsDiffer (requestsBy r s e (matchOf t e)) ≡ true
+    by : judged s e .number ≡ 0 → (r : Role) → Does (e .class) r → P (requestsBy r s e (matchOf t e))
     by z leaving c = d
     by z asking c = takes z (c .0) (lowest t Free) refl
     by z answering c =
         let m = matchOf t e in
-        either (ltb (placeIn m) 96) (released t (placeIn m) (s .rows) (scopeOf e m)) (released-differ t d (placeIn m) (s .rows) (scopeOf e m))
-    by z ending c = cleared-differ t d
+        either (ltb (placeIn m) 96) (released t (placeIn m) (s .rows) (scopeOf e m)) (release (placeIn m) (scopeOf e m))
+    by z ending c = clear
+
+-- where the ids of live requests differ, they still do
+pub kept-ids : (s : Session) (e : Event) → idsDiffer (s .requests) ≡ true → idsDiffer (after s e .requests) ≡ true
+kept-ids s e d =
+    let t = s .requests in
+    kept-by s e (λ (u : Requests). idsDiffer u ≡ true) d (λ i f n. taken-differ t d i (e .request) f n) (λ i c. released-differ t d i (s .rows) c) (cleared-differ t d)
+
+-- "A freed place is as at the start and used again.": where the places that are not live are as at the start, they still are
+pub kept-clean : (s : Session) (e : Event) → Clean (s .requests) → Clean (after s e .requests)
+kept-clean s e h =
+    let t = s .requests in
+    kept-by s e Clean h (λ i f n. taken-clean t i (e .request) f h) (λ i c. released-clean t h i (s .rows) c) (cleared-clean t h)
 
 -- ---- the rows
 
@@ -122,7 +140,7 @@ table-control from caps e (some xs ∷ vs) b =
     announced-control (layout 5) (some xs ∷ vs) ∙ and-whole (eqb (getD xs 0 0) 0) (eqb (getD xs 16 0) 0) (good 0 (omega arith)) (good 16 (omega arith))
 
 -- no field of a packet that the wire checks pass breaks its rule
-fields-good : (l : Link) (p : Content) (c : Clean l p) → isNone (badFields (l .sender) (sharedSet l) (named "endpoint" (c .kind .fields) (p .fields)) (layout (p .kind)) (p .fields) 0) ≡ true
+fields-good : (l : Link) (p : Content) (c : CleanPacket l p) → isNone (badFields (l .sender) (sharedSet l) (named "endpoint" (c .kind .fields) (p .fields)) (layout (p .kind)) (p .fields) 0) ≡ true
 unfolding bad layout
 fields-good l p c =
     let fs = c .kind .fields in
@@ -209,6 +227,10 @@ pub kept-plain : (s : Session) (e : Event) → PlainKept s e
 kept-plain s e = let k = head-kept s e in record { stopped = k .stopped; held = k .held }
 
 -- ---- the start
+
+pub start-clean : Clean (freshSession .requests)
+unfolding freshSession
+start-clean = fresh-clean
 
 -- a session at its start is fit
 pub start-fit : unfit freshSession ≡ false

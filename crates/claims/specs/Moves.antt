@@ -36,6 +36,7 @@ use Rattle.device.specs.Laws.{start-at, withStream, closed-at, isRow, stream-at
 use Rattle.requests.specs.declared.Requests.{Requests}
 use Rattle.requests.specs.Requests.{Place, freePlace, freshRequests, placesOf, lowest, placeAt, cleared}
 use Rattle.requests.specs.Laws.{places-at, cleared-at}
+use Rattle.requests.specs.Clean.{Clean, cleared-fresh}
 use Rattle.kinds.specs.RoundTrip.{clean}
 use Rattle.events.specs.Meaning.{meanings}
 use Rattle.events.specs.Event.{Event, field, meaningOf, announcedIn, eventOf}
@@ -118,6 +119,8 @@ pub record Moved (s : Session) (from : Side) (p : Content) (next : Session) : Ty
   -- 2 and 3 free "every place"; but for these, what is neither a request nor a reply leaves the requests (for those two see `request-keeps` and
   -- `reply-consumes`)
   pub emptied : among (2 ∷ 3 ∷ []) (p .kind) ≡ true → (i : ℕ) → placeAt (next .requests) i ≡ freePlace
+  -- "2 .. returns to the start", "3 frees every place": the table is that of the start, where its free places were so (they are: `run-clean`)
+  pub emptied-fresh : among (2 ∷ 3 ∷ []) (p .kind) ≡ true → Clean (s .requests) → next .requests ≡ freshRequests
   pub requests : isRequest from (p .kind) ≡ false → isReply from (p .kind) (inwardOf p) ≡ false → among (2 ∷ 3 ∷ []) (p .kind) ≡ false → next .requests ≡ s .requests
   -- no packet stops a session or holds bytes: that is the gate's
   pub stopped : next .head .stopped ≡ s .head .stopped
@@ -384,12 +387,17 @@ moves s from p w n =
       types = λ r h i. m .1 r h i .ty;
       interfaces = λ r h i. m .1 r h i .interface;
       streams = λ r h i. m .1 r h i .streaming;
-      emptied = λ a i.
-          let neither : concerned from p ≡ false = neither-kind from (p .kind) (inwardOf p) a in
-          ap (λ (x : Requests). placeAt x i) (rw (neither, a) at (ap (λ (h : Heads). h .requests) (m .0))) ∙ cleared-at (s .requests) i;
+      emptied = λ a i. ap (λ (x : Requests). placeAt x i) (ended (m .0) a) ∙ cleared-at (s .requests) i;
+      emptied-fresh = λ a c. ended (m .0) a ∙ cleared-fresh (s .requests) c;
       requests = λ a b k.
           let neither : concerned from p ≡ false = or-none (isRequest from (p .kind)) (isReply from (p .kind) (inwardOf p)) a b in
           rw (neither, k) at (ap (λ (h : Heads). h .requests) (m .0));
       stopped = λ i. m .0 i .head .stopped;
       held = λ i. m .0 i .head .held;
     })
+  where
+    -- 2 and 3 clear the requests
+    ended : headsOf (concerned from p) (nextOf s from p) ≡ headsBy s from p → among (2 ∷ 3 ∷ []) (p .kind) ≡ true → nextOf s from p .requests ≡ cleared (s .requests)
+    ended m a =
+        let neither : concerned from p ≡ false = neither-kind from (p .kind) (inwardOf p) a in
+        rw (neither, a) at (ap (λ (h : Heads). h .requests) m)

@@ -1,6 +1,6 @@
 -- Packets one after the other, each out of the wire checks of the session as it then is: what 43 tests of a session, but for the held counts,
--- holds throughout (`run-sound`), and once the request that waited under an id was answered or ended, a reply with that id, but for an
--- unsolicited status, is refused until a request takes the id again (`never-another`).
+-- holds throughout (`run-sound`), and free places are as at the start throughout (`run-clean`). Once the request that waited under an id was
+-- answered or ended, a reply with that id, but for an unsolicited status, is refused until a request takes the id again (`never-another`).
 -- By induction over the packets, from what one of them keeps (`Kept.antt`) and from `absent-kept`: only a request takes an id. With
 -- `ended-absent` no request waits under it when the reply comes, and `late` says the rest.
 -- Assumes nothing.
@@ -15,6 +15,7 @@ use Rattle.device.specs.Device.{controlRows}
 use Rattle.device.specs.Laws.{start-control}
 use Rattle.requests.specs.Requests.{placeAt, idsDiffer}
 use Rattle.requests.specs.Laws.{fresh-differ}
+use Rattle.requests.specs.Clean.{Clean}
 use Rattle.kinds.specs.RoundTrip.{clean}
 use Rattle.events.specs.Event.{eventOf}
 use Rattle.session.specs.declared.Session.{Session}
@@ -23,7 +24,7 @@ use Rattle.session.specs.Step.{judged}
 use Rattle.claims.specs.Allowed.{isRequest, isReply, inwardOf}
 use Rattle.claims.specs.Agree.{agrees}
 use Rattle.claims.specs.Steps.{NoLive, absent-kept, ended-absent}
-use Rattle.claims.specs.Kept.{kept-ids, kept-control, event-control}
+use Rattle.claims.specs.Kept.{kept-ids, kept-clean, kept-control, event-control}
 use Rattle.claims.specs.Exchange.{LateReply, late}
 
 -- a packet and who sent it
@@ -68,6 +69,13 @@ step-sound s x h w =
 pub run-sound : (s : Session) (xs : List Sent) → Sound s → AllOutOfWire s xs → Sound (run s xs)
 run-sound s [] h w = h
 run-sound s (x ∷ xs) h w = run-sound (nextBy s x) xs (step-sound s x h (w .0)) (w .1)
+
+-- ---- "A freed place is as at the start and used again."
+
+-- where the places that are not live are as at the start, they are so throughout
+pub run-clean : (s : Session) (xs : List Sent) → Clean (s .requests) → Clean (run s xs .requests)
+run-clean s [] h = h
+run-clean s (x ∷ xs) h = run-clean (nextBy s x) xs (kept-clean s (eventOf (x .from) (x .packet)) h)
 
 -- ---- a late reply
 

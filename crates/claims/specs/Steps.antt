@@ -27,6 +27,7 @@ use Rattle.requests.specs.declared.Request.{Request}
 use Rattle.requests.specs.declared.Requests.{Requests}
 use Rattle.requests.specs.Requests.{isSome, Place, Query, Free, Id, Answered, noRequest, freePlace, taken, meets, answers, lowest, placeAt, withRequest, ends, released, cleared, idsDiffer}
 use Rattle.requests.specs.Laws.{place-taken, released-at, cleared-at, differ-when, live-within, lowest-found, lowest-lower, lowest-none}
+use Rattle.requests.specs.Clean.{Zeroed, released-zero}
 use Rattle.events.specs.Meaning.{Class, Hello, Connect, Interfaces, Endpoints, Disconnect, Reset, Ack, Cancel, Filter, StartRequest, PlainRequest, StreamStatus, PlainReply, StreamData}
 use Rattle.events.specs.Event.{Event, eventOf}
 use Rattle.checks.specs.Checks.{Match, Unmatched, Matched, traitsOf, outOfOrder, matchIn, matchOf, isUnmatched, isUnsolicited, tooLong, numberFor, numberOf}
@@ -266,6 +267,8 @@ pub record Freed (s : Session) (e : Event) (i : ℕ) (q : Request) : Type 0 wher
   pub freed : placeAt (after s e .requests) i ≡ freePlace
   -- any other place is free too where it ends the data request there, and else as before
   pub others : (j : ℕ) → (j ≡ i → ⊥) → placeAt (after s e .requests) j ≡ cond (ends (s .rows) (scopeOf e (Matched i q)) (placeAt (s .requests) j)) freePlace (placeAt (s .requests) j)
+  -- nothing is left of the requests that it frees
+  pub zeroed : (j : ℕ) → j < 96 → (eqb j i || ends (s .rows) (scopeOf e (Matched i q)) (placeAt (s .requests) j)) ≡ true → Zeroed (after s e .requests) j
 
 -- no live request has this id
 abbrev pub NoLive : Requests → ℕ → Type 0
@@ -313,6 +316,7 @@ module _ (s : Session) (e : Event) (i : ℕ) (q : Request) (z : judged s e .numb
         short = ltb-false (q .length) (e .request .length) (sym (ap (tooLong e) m) ∙ none-held s e z .short);
         freed = place-after i ∙ rw (eq-eqb i i refl);
         others = λ j n. place-after j ∙ rw (ne-eqb j i n);
+        zeroed = λ j h k. rw replied (released-zero (s .requests) i (s .rows) (scopeOf e (Matched i q)) j h k);
       }
 
   -- where the ids of live requests differ, none with its id is live after it

@@ -1,5 +1,6 @@
 -- 43 is "session not one the gate can leave": from a session at its start, with two holding buffers that 41 allows, no list of reader calls meets
 -- 41 or 43 (`never-refused`), nor does a writer call meet 43 (`never-refused-write`). So demand 3 starts from every session that the gate leads to (`begun-starts`).
+-- In each of them the free places are as at the start (`begun-clean`), so that a 2 or 3 leaves the requests as at the start (`begun-emptied`).
 -- What 41 and 43 ask (`Left`) holds at the start and is kept by each way of a call, by induction over the calls. A hello that passes could change
 -- what the other's held bytes are (`other-unfinished`): but where the other's own has not passed, nothing is shared before or after; where it has
 -- and this one had not, nothing is held there; and where both had, no hello changes.
@@ -28,28 +29,31 @@ use Rattle.kinds.specs.Content.{Content}
 use Rattle.kinds.specs.Number.{wireNumber}
 use Rattle.kinds.specs.Codec.{decode, readNumber}
 use Rattle.device.specs.Device.{startHead, controlRows}
-use Rattle.requests.specs.Requests.{idsDiffer}
+use Rattle.requests.specs.Requests.{freshRequests, idsDiffer}
+use Rattle.requests.specs.Clean.{Clean}
 use Rattle.events.specs.Event.{Event, eventOf}
 use Rattle.session.specs.declared.Session.{Session}
 use Rattle.session.specs.Session.{freshSession, linkOf, unfit}
 use Rattle.session.specs.Step.{judged}
 use Rattle.claims.specs.Allowed.{among}
 use Rattle.claims.specs.Steps.{refused}
-use Rattle.claims.specs.Kept.{kept-ids, kept-control, event-control, kept-hellos, kept-plain, start-fit}
+use Rattle.claims.specs.Kept.{kept-ids, kept-clean, kept-control, event-control, kept-hellos, kept-plain, start-clean, start-fit}
 use Rattle.claims.specs.Moves.{Moved, moves}
 use Rattle.frame.specs.Cut.{Cut, more, bad, whole, cutOf}
 use Rattle.wire.specs.Prefix.{cut-none}
 use Rattle.wire.specs.Usbredir.{usbredir, laws}
 use Rattle.frame.specs.Frame.{cutAt, completed}
 use Rattle.gate.specs.Verdict.{heldOf, heldAs, stoppedNow, refusedAs, verdictOf}
-use Rattle.gate.specs.Offer.{heldBytes, isWaiting, barred, byCut, offerOf}
+use Rattle.gate.specs.Offer.{Outcome, heldBytes, isWaiting, barred, byCut, offerOf}
 use Rattle.gate.specs.Write.{shut, writeBy}
 use Rattle.gate.specs.Laws.{FitCount, Fit, fit-is, is-fit, completed-length, more-few, Ready, ready}
 use Rattle.demands.specs.Numbers.{write-numbers}
 use Rattle.demands.specs.Kept.{held-as, same-held, whole-number}
 use Rattle.demands.specs.Cuts.{of-side, Both, Call, answerTo, next, final, heldBy, ends, verdict-ends}
 use Rattle.demands.specs.Calls.{Unfinished, header-ends}
+use Rattle.demands.specs.Demand2.{packetAt, Passes, demand-2, judged-call, moves-in-gate}
 use Rattle.demands.specs.Demand3.{State, Starts}
+use Rattle.demands.specs.Late.{by-call, readIn, read-is}
 
 abbrev pub helloBy : Side → Session → Hello
 helloBy Guest s = s .head .guest
@@ -407,3 +411,35 @@ pub begun-starts : (hold : Side → List ℕ) → ((d : Side) → 32784 ≤ leng
 begun-starts hold room cs d running guest host none =
     let l : Left (final (begun hold) cs) = left-kept (begun hold) cs (begun-left hold room) in
     record { running = running; guest = guest; host = host; fit = is-fit (final (begun hold) cs .session) (l .fit); nothing-held = none; room = l .room d }
+
+-- ---- "A freed place is as at the start and used again."
+
+-- a call moves the requests as the judge does or not at all
+pub clean-kept : (x : Both) (cs : List Call) → Clean (x .session .requests) → Clean (final x cs .session .requests)
+unfolding final
+clean-kept x [] h = h
+clean-kept x (c ∷ cs) h =
+    clean-kept (next x c) cs
+    (by-call x c Clean h (λ p. kept-clean (heldAs (c .from) 0 (x .session)) (eventOf (c .from) (packetAt (c .from) (x .session) (x .hold (c .from)) (c .piece) (p .size))) h))
+
+-- after any calls, the places that are not live are as at the start
+pub begun-clean : (hold : Side → List ℕ) (cs : List Call) → Clean (final (begun hold) cs .session .requests)
+begun-clean hold cs = clean-kept (begun hold) cs start-clean
+
+-- "2 .. frees every place, returns to the start", "3 frees every place": a call that passes one leaves the table of the start
+emptied-call : (x : Both) (c : Call) → Clean (x .session .requests) → answerTo x c .number ≡ 0 → among (2 ∷ 3 ∷ []) (readIn x c .kind) ≡ true
+    → next x c .session .requests ≡ freshRequests
+emptied-call x c h z k =
+    let from : Side = c .from in
+    let s : Session = x .session in
+    let p : Passes from s (x .hold from) (c .piece) = demand-2 from s (x .hold from) (c .piece) .0 z in
+    let q : Content = packetAt from s (x .hold from) (c .piece) (p .size) in
+    let r : readIn x c ≡ q = read-is x c (record { ready = p .ready; size = p .size; whole = p .whole; form = p .form }) in
+    let n : judged (heldAs from 0 s) (eventOf from q) .number ≡ 0 =
+    sym (ap (λ (u : Outcome). u .number) (judged-call from s (x .hold from) (c .piece) (p .ready) (p .size) (p .whole) (p .form))) ∙ z in
+    ap (λ (u : Session). u .requests) (moves-in-gate from s (x .hold from) (c .piece) p)
+    ∙ moves (heldAs from 0 s) from q (p .form) n .emptied-fresh (sym (ap (λ (u : Content). among (2 ∷ 3 ∷ []) (u .kind)) r) ∙ k) h
+
+pub begun-emptied : (hold : Side → List ℕ) (cs : List Call) (c : Call) → answerTo (final (begun hold) cs) c .number ≡ 0
+    → among (2 ∷ 3 ∷ []) (readIn (final (begun hold) cs) c .kind) ≡ true → next (final (begun hold) cs) c .session .requests ≡ freshRequests
+begun-emptied hold cs c z k = emptied-call (final (begun hold) cs) c (begun-clean hold cs) z k

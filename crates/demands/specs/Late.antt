@@ -106,7 +106,7 @@ module _ (x : Both) (c : Call) where
   passing = Passes (c .from) s (x .hold (c .from)) (c .piece)
 
   -- what holds of the requests as they were, and as the judge leaves them where a packet passes, holds after the call
-  by-call : (P : Requests → Type 0) → P (s .requests)
+  pub by-call : (P : Requests → Type 0) → P (s .requests)
       → ((h : passing) → P (judged (heldAs (c .from) 0 s) (eventOf (c .from) (packetAt (c .from) s (x .hold (c .from)) (c .piece) (h .size))) .session .requests))
       → P (next x c .session .requests)
   by-call P same judge =
@@ -161,7 +161,7 @@ module _ (x : Both) (c : Call) (o : CameOut (c .from) (x .session) (x .hold (c .
   called : answerTo x c ≡ packetTaken from (x .session) hold (c .piece) (judgedOf (heldAs from 0 (x .session)) from (take (o .size) (heldBy x from ++ c .piece))) (o .size)
   called = judged-call from (x .session) hold (c .piece) (o .ready) (o .size) (o .whole) (o .form)
 
-  read-is : readIn x c ≡ p
+  pub read-is : readIn x c ≡ p
   read-is =
       let l : Link = linkOf from (x .session) in
       let held : ℕ = heldOf from (x .session) in

@@ -30,7 +30,7 @@ use Rattle.requests.specs.Requests.{Place, freePlace, freshRequests, fre
 
 -- n, at most 96
 module _ (n : ℕ) where
-  bound-low : cond (leb n 96) n 96 ≤ 96
+  pub bound-low : cond (leb n 96) n 96 ≤ 96
   bound-low = cases (leb n 96) (λ e. rw e (leb-true n 96 e)) (λ e. rw e (omega arith))
 
   bound-within : cond (leb n 96) n 96 ≤ n
@@ -153,11 +153,11 @@ ltb-same j m n f g =
 
 module _ (t : Requests) (i : ℕ) (r : Request) (low : i < 96) where
   -- each column has the request's part at i
-  taken-live : (j : ℕ) → j < 96 → getD (withRequest t i r .live) j false ≡ cond (eqb j i) true (getD (t .live) j false)
+  pub taken-live : (j : ℕ) → j < 96 → getD (withRequest t i r .live) j false ≡ cond (eqb j i) true (getD (t .live) j false)
   unfolding withRequest
   taken-live j h = tabulated-at (λ (k : ℕ). cond (eqb k i) true (getD (t .live) k false)) 96 j false h
 
-  taken-request : (j : ℕ) → j < 96 → requestAt (withRequest t i r) j ≡ cond (eqb j i) r (requestAt t j)
+  pub taken-request : (j : ℕ) → j < 96 → requestAt (withRequest t i r) j ≡ cond (eqb j i) r (requestAt t j)
   unfolding withRequest
   taken-request j h =
       let id = tabulated-at (λ k. cond (eqb k i) (r .id) (getD (t .ids) k 0)) 96 j 0 h in
@@ -222,7 +222,7 @@ place-taken t i r free j = cases (eqb j i) (λ e. here e) (λ e. taken-other t i
     here e = ap (placeAt (withRequest t i r)) (eqb-true j i e) ∙ taken-here t i r low ∙ rw e
 
 -- all live places lie below the trimmed number
-trimmed-low : (l : List Bool) (n : ℕ) → trimmed l n ≤ n
+pub trimmed-low : (l : List Bool) (n : ℕ) → trimmed l n ≤ n
 unfolding trimmed
 trimmed-low l zero = omega arith
 trimmed-low l (suc n) = cases (getD l n false) (λ e. rw e (omega arith)) (λ e. rw e (omega (arith, trimmed-low l n)))
@@ -238,11 +238,11 @@ trimmed-live l (suc n) j h e =
     last b q = true≢false (sym e ∙ ap (λ (k : ℕ). getD l k false) q ∙ b)
 
 module _ (t : Requests) (f : ℕ → Bool) where
-  without-live : (j : ℕ) → j < 96 → getD (without t f .live) j false ≡ cond (f j) false (getD (t .live) j false)
+  pub without-live : (j : ℕ) → j < 96 → getD (without t f .live) j false ≡ cond (f j) false (getD (t .live) j false)
   unfolding without
   without-live j h = tabulated-at (λ (k : ℕ). cond (f k) false (getD (t .live) k false)) 96 j false h
 
-  without-request : (j : ℕ) → j < 96 → f j ≡ false → requestAt (without t f) j ≡ requestAt t j
+  pub without-request : (j : ℕ) → j < 96 → f j ≡ false → requestAt (without t f) j ≡ requestAt t j
   unfolding without
   without-request j h e =
       let id = tabulated-at (λ k. cond (f k) 0 (getD (t .ids) k 0)) 96 j 0 h in
