@@ -1,12 +1,11 @@
 -- What a ruling comes to in each case, in the values that the code has: a request (`asked-mistyped` and those after it), data on a stream
 -- (`streamed-mistyped` and those after it), a reply by the place that has its id (`reply-pending`, `reply-other`, `reply-nowhere`) and by the slot
--- there (`target-other`, `target-same`), and the case itself (`by-case`), whose ruling waits for no slot (`ruled-final`).
+-- there (`target-other`, `target-same`), and the case itself (`by-case`).
 -- Each computes once the equations are put in that the code's calls and branches give.
 -- Assumes nothing.
 use Prim.Native.Nat.{ℕ}
 use mathlib.Core.Path.{_≡_, refl, sym, ap, _∙_}
 use mathlib.Core.Bool.{Bool, true, false, cond, not, _&&_, _||_}
-use mathlib.Core.Option.{Option, none, some}
 use lib.ListN.{getD}
 use lib.Dec.{eqb, ltb}
 use borrow.Author.Tests.{eq-eqb, ne-eqb}
@@ -21,18 +20,17 @@ use Rattle.requests.specs.declared.Requests.{Requests}
 use Rattle.requests.specs.declared.Slot.{Slot}
 use Rattle.requests.specs.declared.Found.{Found}
 use Rattle.requests.specs.declared.Found.the-variants.{At, Nowhere}
-use Rattle.requests.specs.Requests.{isSome, freeSlot, Free, Id, Settling, lowest, foundAt}
+use Rattle.requests.specs.Requests.{isSome, Free, Id, Settling, lowest, foundAt}
 use Rattle.events.specs.declared.Typed.{Typed}
 use Rattle.events.specs.declared.Reply.{Reply}
 use Rattle.events.specs.declared.Case.{Case}
 use Rattle.events.specs.declared.Case.the-variants as cases
-use Rattle.checks.specs.declared.Change.{Change}
 use Rattle.checks.specs.declared.Change.the-variants.{Nothing, Answer}
 use Rattle.checks.specs.declared.Expected.{Expected}
 use Rattle.checks.specs.declared.Ruling.{Ruling}
-use Rattle.checks.specs.declared.Ruling.the-variants.{Refused, Passed}
-use Rattle.checks.specs.Checks.{isBegun, isDone, mistypedBy}
-use Rattle.checks.specs.Ruled.{taking, askedBy, unmatched, alone, scopeTo, expected, settledBy, settled, answeredIn, streamedBy, ruled}
+use Rattle.checks.specs.declared.Ruling.the-variants.{Refused, Passed, Pending}
+use Rattle.checks.specs.Checks.{mistypedBy}
+use Rattle.checks.specs.Ruled.{taking, askedBy, unmatched, alone, scopeTo, expected, settledBy, repliedIn, streamedBy, ruled}
 
 -- a choice, where its test is known
 module _ {A : Type 0} (b : Bool) (x y : A) where
@@ -109,88 +107,28 @@ module _ (i : ℕ) (x : Expected) (typed : Typed) (opens : Bool) (scope : Scope)
   pub target-same : other ≡ false → Settles (cond (ltb (slot .length) (x .length)) (Refused 34) (Passed (Answer i typed opens scope)))
   target-same h = rw (other-target (x .targeted) (eqb (slot .target) (x .target)), h)
 
--- ---- rulings that wait for no slot
-
-data Final : Ruling → Type 0 where
-  refused : {n : ℕ} → Final (Refused n)
-  passed : {c : Change} → Final (Passed c)
-
-settled-final : {r : Ruling} (t : Requests) → Final r → settled r t ≡ r
-settled-final t refused = refl
-settled-final t passed = refl
-
-either : {x y : Ruling} (b : Bool) → Final x → Final y → Final (cond b x y)
-either true e f = e
-either false e f = f
-
-unmatched-final : (typed : Typed) (unasked : Bool) → Final (unmatched typed unasked)
-unmatched-final typed unasked = either unasked passed refused
-
-taking-final : (q : Request) (typed : Typed) (starts : Bool) (o : Option ℕ) → Final (taking q typed starts o)
-taking-final q typed starts none = refused
-taking-final q typed starts (some i) = passed
-
-answered-final : (t : Requests) (r : Reply) (typed : Typed) (unasked : Bool) (o : Option ℕ) → Final (answeredIn t r typed unasked o)
-answered-final t r typed unasked none = unmatched-final typed (alone r unasked)
-answered-final t r typed unasked (some i) =
-    let k = getD (t .kinds) i 0 in
-    let slot = getD (t .slots) i freeSlot in
-    let none-final = unmatched-final typed (alone r unasked) in
-    either (eqb k (r .answers .first) || eqb k (r .answers .second))
-    (either (not (r .answers .targeted) || eqb (slot .target) (r .told .target)) (either (ltb (slot .length) (r .told .length)) refused passed) none-final)
-    none-final
-
 -- ---- a reply, by the place that has its id
 
 module _ (t : Requests) (r : Reply) (typed : Typed) (unasked : Bool) (f : Found) (found : foundAt f ≡ lowest t (Id (r .told .id))) where
-  abbrev answered : Ruling
-  answered = answeredIn t r typed unasked (lowest t (Id (r .told .id)))
+  abbrev replied : Ruling
+  replied = repliedIn t r typed unasked (lowest t (Id (r .told .id)))
 
-  at-place : (z : Found) → f ≡ z → answeredIn t r typed unasked (foundAt z) ≡ answered
+  at-place : (z : Found) → f ≡ z → repliedIn t r typed unasked (foundAt z) ≡ replied
   at-place z e = rw (← found, e)
 
   -- no request is answered
-  none-answered : (u : Ruling) → u ≡ unmatched typed (alone r unasked) → settled u t ≡ unmatched typed (alone r unasked)
-  none-answered u e = rw e (settled-final t (unmatched-final typed (alone r unasked)))
-
-  pub reply-nowhere : f ≡ Nowhere → (u : Ruling) → u ≡ unmatched typed (alone r unasked) → settled u t ≡ answered
-  reply-nowhere e u c = none-answered u c ∙ at-place Nowhere e
+  pub reply-nowhere : f ≡ Nowhere → (u : Ruling) → u ≡ unmatched typed (alone r unasked) → u ≡ replied
+  reply-nowhere e u c = c ∙ at-place Nowhere e
 
   module _ (i : ℕ) (e : f ≡ At i) (k : ℕ) (isk : k ≡ getD (t .kinds) i 0) where
     -- its kind is none that the reply answers
-    pub reply-other : (eqb k (r .answers .first) || eqb k (r .answers .second)) ≡ false → (u : Ruling) → u ≡ unmatched typed (alone r unasked) → settled u t ≡ answered
-    reply-other h u c = none-answered u c ∙ rw (← isk, h) at (at-place (At i) e)
+    pub reply-other : (eqb k (r .answers .first) || eqb k (r .answers .second)) ≡ false → (u : Ruling) → u ≡ unmatched typed (alone r unasked) → u ≡ replied
+    reply-other h u c = c ∙ rw (← isk, h) at (at-place (At i) e)
 
     pub reply-pending : (eqb k (r .answers .first) || eqb k (r .answers .second)) ≡ true → (s : Scope) → s ≡ scopeTo r k
-        → settledBy i (expected r unasked) typed (eqb (r .status) 0 && eqb k (r .answers .first)) s (getD (t .slots) i freeSlot) ≡ answered
+        → Pending i (expected r unasked) typed (eqb (r .status) 0 && eqb k (r .answers .first)) s ≡ replied
     reply-pending h s c = rw c (rw (← isk, h) at (at-place (At i) e))
 
--- ---- each case
-
-module _ (h : Head) (d : Rows) (t : Requests) where
-  ruled-final : (c : Case) → Final (ruled h d t c)
-  unfolding ruled
-  ruled-final (cases.Hello word) = passed
-  ruled-final cases.Connect = either (h .owed) refused (either (h .present || not (isDone (h .introduction))) refused passed)
-  ruled-final cases.Interfaces = either (h .owed) refused (either (not (h .present) && not (isBegun (h .introduction))) refused passed)
-  ruled-final cases.Endpoints = either (h .owed) refused passed
-  ruled-final cases.Disconnect = either (h .present) passed refused
-  ruled-final cases.Reset = either (h .present) passed refused
-  ruled-final cases.Ack = either (h .owed) passed refused
-  ruled-final cases.Cancel = either (h .present) passed refused
-  ruled-final cases.Filter = passed
-  ruled-final (cases.Asks q typed starts transfer) =
-      either (h .present)
-      (either (mistypedBy d typed) refused
-      (either (transfer && isSome (lowest t Settling)) refused
-      (either (isSome (lowest t (Id (q .id)))) refused (taking-final q typed starts (lowest t Free)))))
-      refused
-  ruled-final (cases.Answers r typed unasked) = either (h .present) (answered-final t r typed unasked (lowest t (Id (r .told .id)))) refused
-  ruled-final (cases.Streams e ty transfer) =
-      either (h .present)
-      (either (eqb (stateAt d e .ty) ty) (either (transfer && isSome (lowest t Settling)) refused (either (stateAt d e .streaming) passed refused)) refused)
-      refused
-
-  -- a ruling is that of the packet's case
-  pub by-case : (c x : Case) (r : Ruling) → c ≡ x → r ≡ ruled h d t x → settled r t ≡ ruled h d t c
-  by-case c x r k e = ap (λ (u : Ruling). settled u t) e ∙ settled-final t (ruled-final x) ∙ sym (ap (ruled h d t) k)
+-- a ruling is that of the packet's case
+pub by-case : (h : Head) (d : Rows) (t : Requests) (c x : Case) (r : Ruling) → c ≡ x → r ≡ ruled h d t x → r ≡ ruled h d t c
+by-case h d t c x r k e = e ∙ sym (ap (ruled h d t) k)

@@ -1,4 +1,4 @@
--- A packet ruled on case by case (`ruled`) gets what the rules give its event (`rulingOf`), where no two live requests have one id.
+-- A packet ruled on case by case (`ruled`) and settled gets what the rules give its event (`rulingOf`), where no two live requests have one id.
 -- For each class the checks that cannot hold drop out by computation, and what is left are the tests of its case in the same order. A reply's
 -- request is the one with its id (`answered-by-id`): so the kind, the endpoint or interface and the length of that one decide.
 -- Assumes nothing.
@@ -35,7 +35,7 @@ use Rattle.checks.specs.declared.Ruling.{Ruling}
 use Rattle.checks.specs.declared.Ruling.the-variants.{Refused, Passed}
 use Rattle.checks.specs.Checks.{Match, Unmatched, Matched, matchIn, matchOf, isUnmatched, tooLong, mistypedBy, isDone, isBegun, numberFor, numberOf}
 use Rattle.checks.specs.Change.{ruledBy, rulingOf, opens, scopeOf, placeOr, placeIn}
-use Rattle.checks.specs.Ruled.{ruled, withDevice, askedBy, taking, answeredIn, streamedBy, unmatched, alone, settledBy, expected, scopeTo}
+use Rattle.checks.specs.Ruled.{ruled, withDevice, askedBy, taking, repliedIn, streamedBy, unmatched, alone, settled, settledBy, expected, scopeTo}
 
 -- what an event is that its packet's table of meanings gives: a transfer is a request or stream data, and stream data is on an endpoint
 pub record Proper (e : Event) : Type 0 where
@@ -70,43 +70,44 @@ tag StreamData = 13
 apart : (c d : Class) → eqb (tag c) (tag d) ≡ false → c ≡ d → ⊥
 apart c d h e = true≢false (sym (eq-eqb (tag c) (tag d) (ap tag e)) ∙ h)
 
--- ---- the shape of each group of cases
+-- ---- the shape of each group of cases, settled
 
--- a request: 25, 28, 29, 31, 32
-request-shape : (a b c d : Bool) (o : Option ℕ) (take : ℕ → Change) (taking : Option ℕ → Ruling) → taking none ≡ Refused 32 → ((i : ℕ) → taking (some i) ≡ Passed (take i))
-    → cond a (cond b (Refused 28) (cond c (Refused 29) (cond d (Refused 31) (taking o)))) (Refused 25)
-    ≡ ruledBy (cond (not a) 25 (cond b 28 (cond c 29 (cond d 31 (cond (not (isSome o)) 32 0))))) (take (placeOr o))
-request-shape false b c d o take taking n s = refl
-request-shape true true c d o take taking n s = refl
-request-shape true false true d o take taking n s = refl
-request-shape true false false true o take taking n s = refl
-request-shape true false false false none take taking n s = n
-request-shape true false false false (some i) take taking n s = s i
+module _ (t : Requests) where
+  -- a request: 25, 28, 29, 31, 32
+  request-shape : (a b c d : Bool) (o : Option ℕ) (take : ℕ → Change) (taking : Option ℕ → Ruling) → taking none ≡ Refused 32 → ((i : ℕ) → taking (some i) ≡ Passed (take i))
+      → settled (cond a (cond b (Refused 28) (cond c (Refused 29) (cond d (Refused 31) (taking o)))) (Refused 25)) t
+      ≡ ruledBy (cond (not a) 25 (cond b 28 (cond c 29 (cond d 31 (cond (not (isSome o)) 32 0))))) (take (placeOr o))
+  request-shape false b c d o take taking n s = refl
+  request-shape true true c d o take taking n s = refl
+  request-shape true false true d o take taking n s = refl
+  request-shape true false false true o take taking n s = refl
+  request-shape true false false false none take taking n s = ap (λ (r : Ruling). settled r t) n
+  request-shape true false false false (some i) take taking n s = ap (λ (r : Ruling). settled r t) (s i)
 
--- data on a stream: 25, 28, 29, 30
-stream-shape : (a b c d : Bool) (x : Change) → cond a (cond b (cond c (Refused 29) (cond d (Passed x) (Refused 30))) (Refused 28)) (Refused 25)
-    ≡ ruledBy (cond (not a) 25 (cond (not b) 28 (cond c 29 (cond (not d) 30 0)))) x
-stream-shape false b c d x = refl
-stream-shape true false c d x = refl
-stream-shape true true true d x = refl
-stream-shape true true false true x = refl
-stream-shape true true false false x = refl
+  -- data on a stream: 25, 28, 29, 30
+  stream-shape : (a b c d : Bool) (x : Change) → settled (cond a (cond b (cond c (Refused 29) (cond d (Passed x) (Refused 30))) (Refused 28)) (Refused 25)) t
+      ≡ ruledBy (cond (not a) 25 (cond (not b) 28 (cond c 29 (cond (not d) 30 0)))) x
+  stream-shape false b c d x = refl
+  stream-shape true false c d x = refl
+  stream-shape true true true d x = refl
+  stream-shape true true false true x = refl
+  stream-shape true true false false x = refl
 
--- an introduction: 27, 26
-order-shape : (a b : Bool) (x : Change) → cond a (Refused 27) (cond b (Refused 26) (Passed x)) ≡ ruledBy (cond a 27 (cond b 26 0)) x
-order-shape true b x = refl
-order-shape false true x = refl
-order-shape false false x = refl
+  -- an introduction: 27, 26
+  order-shape : (a b : Bool) (x : Change) → settled (cond a (Refused 27) (cond b (Refused 26) (Passed x))) t ≡ ruledBy (cond a 27 (cond b 26 0)) x
+  order-shape true b x = refl
+  order-shape false true x = refl
+  order-shape false false x = refl
 
--- what needs a device: 25
-device-shape : (a : Bool) (x : Change) → cond a (Passed x) (Refused 25) ≡ ruledBy (cond (not a) 25 0) x
-device-shape true x = refl
-device-shape false x = refl
+  -- what needs a device: 25
+  device-shape : (a : Bool) (x : Change) → settled (cond a (Passed x) (Refused 25)) t ≡ ruledBy (cond (not a) 25 0) x
+  device-shape true x = refl
+  device-shape false x = refl
 
--- an ack: 26
-ack-shape : (a : Bool) (x : Change) → cond a (Passed x) (Refused 26) ≡ ruledBy (cond (not a) 26 0) x
-ack-shape true x = refl
-ack-shape false x = refl
+  -- an ack: 26
+  ack-shape : (a : Bool) (x : Change) → settled (cond a (Passed x) (Refused 26)) t ≡ ruledBy (cond (not a) 26 0) x
+  ack-shape true x = refl
+  ack-shape false x = refl
 
 -- ---- a reply
 
@@ -120,7 +121,10 @@ module _ (t : Requests) (e : Event) (unasked : Bool) where
   wanted Unmatched = changes.Answer 96 (e .typed) false Nowhere
   wanted (Matched i q) = changes.Answer i (e .typed) (opens e (Matched i q)) (scopeOf e (Matched i q))
 
-  none-matched : unmatched (e .typed) (alone (replyOf e) unasked) ≡ ruledBy (matchNumber e unasked Unmatched) (wanted Unmatched)
+  none-answered : unmatched (e .typed) (alone (replyOf e) unasked) ≡ ruledBy (matchNumber e unasked Unmatched) (wanted Unmatched)
+  none-answered = cases (unasked && eqb (e .request .id) 0 && eqb (e .status) 4) (λ x. rw x) (λ x. rw x)
+
+  none-matched : settled (unmatched (e .typed) (alone (replyOf e) unasked)) t ≡ ruledBy (matchNumber e unasked Unmatched) (wanted Unmatched)
   none-matched = cases (unasked && eqb (e .request .id) 0 && eqb (e .status) 4) (λ x. rw x) (λ x. rw x)
 
   -- the live request with its id, as the columns have it
@@ -143,7 +147,7 @@ module _ (t : Requests) (e : Event) (unasked : Bool) where
 
   -- place i decides: its kind, its endpoint or interface, its length
   settled-is : (i : ℕ) → lowest t (Id (e .request .id)) ≡ some i
-      → answeredIn t (replyOf e) (e .typed) unasked (some i)
+      → settled (repliedIn t (replyOf e) (e .typed) unasked (some i)) t
       ≡ ruledBy (matchNumber e unasked (matchIn t (answeredBy (e .request) (e .answers) t (some i)))) (wanted (matchIn t (answeredBy (e .request) (e .answers) t (some i))))
   settled-is i f =
       let w = there i f in
@@ -154,23 +158,23 @@ module _ (t : Requests) (e : Event) (unasked : Bool) where
       rw k
       (cases (not (e .answers .targeted) || eqb (q .target) (e .request .target))
       (λ x. rw x (matched-is i (w .0)))
-      (λ x. rw x none-matched)))
+      (λ x. rw x none-answered)))
       (λ k. rw k none-matched))
 
   reply-is : idsDiffer t ≡ true
-      → answeredIn t (replyOf e) (e .typed) unasked (lowest t (Id (e .request .id)))
+      → settled (repliedIn t (replyOf e) (e .typed) unasked (lowest t (Id (e .request .id)))) t
       ≡ ruledBy (matchNumber e unasked (matchIn t (lowest t (Answered (e .request) (e .answers))))) (wanted (matchIn t (lowest t (Answered (e .request) (e .answers)))))
   reply-is u = rw (answered-by-id t u (e .request) (e .answers)) (go (lowest t (Id (e .request .id))) refl)
     where
       go : (o : Option ℕ) → lowest t (Id (e .request .id)) ≡ o
-          → answeredIn t (replyOf e) (e .typed) unasked o
+          → settled (repliedIn t (replyOf e) (e .typed) unasked o) t
           ≡ ruledBy (matchNumber e unasked (matchIn t (answeredBy (e .request) (e .answers) t o))) (wanted (matchIn t (answeredBy (e .request) (e .answers) t o)))
       go none f = none-matched
       go (some i) f = settled-is i f
 
   -- and by the checks: 25, 33, 34
-  reply-shape : (a : Bool) (r : Ruling) (m : Match) → r ≡ ruledBy (matchNumber e unasked m) (wanted m)
-      → cond a r (Refused 25)
+  reply-shape : (a : Bool) (r : Ruling) (m : Match) → settled r t ≡ ruledBy (matchNumber e unasked m) (wanted m)
+      → settled (cond a r (Refused 25)) t
       ≡ ruledBy (cond (not a) 25 (cond (isUnmatched m && not (unasked && eqb (e .request .id) 0 && eqb (e .status) 4)) 33 (cond (tooLong e m) 34 0))) (changes.Answer (placeIn m) (e .typed) (opens e m) (scopeOf e m))
   reply-shape false r m h = refl
   reply-shape true r Unmatched h = h ∙ cases (unasked && eqb (e .request .id) 0 && eqb (e .status) 4) (λ x. rw x) (λ x. rw x)
@@ -180,7 +184,7 @@ module _ (t : Requests) (e : Event) (unasked : Bool) where
 
 module _ (h : Head) (d : Rows) (t : Requests) (u : idsDiffer t ≡ true) where
   abbrev Agrees : Event → Type 0
-  Agrees e = ruled h d t (caseOf e) ≡ rulingOf h d t e
+  Agrees e = settled (ruled h d t (caseOf e)) t ≡ rulingOf h d t e
 
   module _ (from : Side) (r : Request) (a : Answers) (ty : Typed) (st w : ℕ) (rows : Rows) where
     abbrev of : Class → Event
@@ -192,19 +196,19 @@ module _ (h : Head) (d : Rows) (t : Requests) (u : idsDiffer t ≡ true) where
     by-class : (c : Class) → Proper (of c) → Agrees (of c)
     unfolding ruled rulingOf numberOf numberFor matchOf
     by-class Hello p = rw (calm Hello p refl refl)
-    by-class Connect p = rw (calm Connect p refl refl) (order-shape (h .owed) (h .present || not (isDone (h .introduction))) changes.Connect)
-    by-class Interfaces p = rw (calm Interfaces p refl refl) (order-shape (h .owed) (not (h .present) && not (isBegun (h .introduction))) changes.Interfaces)
-    by-class Endpoints p = rw (calm Endpoints p refl refl) (order-shape (h .owed) false changes.Endpoints)
-    by-class Disconnect p = rw (calm Disconnect p refl refl) (device-shape (h .present) changes.Disconnect)
-    by-class Reset p = rw (calm Reset p refl refl) (device-shape (h .present) changes.Reset)
-    by-class Ack p = rw (calm Ack p refl refl) (ack-shape (h .owed) changes.Acknowledge)
-    by-class Cancel p = rw (calm Cancel p refl refl) (device-shape (h .present) changes.Nothing)
+    by-class Connect p = rw (calm Connect p refl refl) (order-shape t (h .owed) (h .present || not (isDone (h .introduction))) changes.Connect)
+    by-class Interfaces p = rw (calm Interfaces p refl refl) (order-shape t (h .owed) (not (h .present) && not (isBegun (h .introduction))) changes.Interfaces)
+    by-class Endpoints p = rw (calm Endpoints p refl refl) (order-shape t (h .owed) false changes.Endpoints)
+    by-class Disconnect p = rw (calm Disconnect p refl refl) (device-shape t (h .present) changes.Disconnect)
+    by-class Reset p = rw (calm Reset p refl refl) (device-shape t (h .present) changes.Reset)
+    by-class Ack p = rw (calm Ack p refl refl) (ack-shape t (h .owed) changes.Acknowledge)
+    by-class Cancel p = rw (calm Cancel p refl refl) (device-shape t (h .present) changes.Nothing)
     by-class Filter p = rw (calm Filter p refl refl)
     by-class StartRequest p =
-        request-shape (h .present) (mistypedBy d ty) (isTransfer (of StartRequest) && isSome (lowest t Settling)) (isSome (lowest t (Id (r .id)))) (lowest t Free)
+        request-shape t (h .present) (mistypedBy d ty) (isTransfer (of StartRequest) && isSome (lowest t Settling)) (isSome (lowest t (Id (r .id)))) (lowest t Free)
         (λ (i : ℕ). changes.Start i r ty) (taking r ty true) refl (λ i. refl)
     by-class PlainRequest p =
-        request-shape (h .present) (mistypedBy d ty) (isTransfer (of PlainRequest) && isSome (lowest t Settling)) (isSome (lowest t (Id (r .id)))) (lowest t Free)
+        request-shape t (h .present) (mistypedBy d ty) (isTransfer (of PlainRequest) && isSome (lowest t Settling)) (isSome (lowest t (Id (r .id)))) (lowest t Free)
         (λ (i : ℕ). changes.Take i r) (taking r ty false) refl (λ i. refl)
     by-class StreamStatus p =
         rw (calm StreamStatus p refl refl)
@@ -214,7 +218,7 @@ module _ (h : Head) (d : Rows) (t : Requests) (u : idsDiffer t ≡ true) where
         (reply-shape t (of PlainReply) false (h .present) _ (matchIn t (lowest t (Answered r a))) (reply-is t (of PlainReply) false u))
     by-class StreamData p =
         let x = p .streamed refl in
-        rw (x .2) (stream-shape (h .present) (eqb (stateAt d (x .0) .ty) (x .1)) (isTransfer (of StreamData) && isSome (lowest t Settling)) (stateAt d (x .0) .streaming) changes.Nothing)
+        rw (x .2) (stream-shape t (h .present) (eqb (stateAt d (x .0) .ty) (x .1)) (isTransfer (of StreamData) && isSome (lowest t Settling)) (stateAt d (x .0) .streaming) changes.Nothing)
 
   pub ruled-is : (e : Event) → Proper e → Agrees e
   ruled-is e p = by-class (e .sender) (e .request) (e .answers) (e .typed) (e .status) (e .word) (e .rows) (e .class) p

@@ -1,5 +1,5 @@
--- A packet ruled on case by case, as the code goes: each case asks only what can refuse it.
--- Assumes nothing: these are definitions. `ruled-is` in `Agree` shows that they are the rules.
+-- A packet ruled on case by case, as the code goes: each case asks only what can refuse it, and a reply waits for the slot of its request.
+-- Assumes nothing: these are definitions. `ruled-is` in `Agree` shows that, settled, they are the rules.
 use Prim.Native.Nat.{ℕ}
 use mathlib.Core.Bool.{Bool, true, false, cond, not, _&&_, _||_}
 use mathlib.Core.Option.{Option, none, some}
@@ -60,6 +60,14 @@ scopeTo r kind = cond (eqb (r .status) 0) (cond (eqb kind 6) Everywhere (cond (e
 abbrev pub expected : Reply → Bool → Expected
 expected r unasked = record { length = r .told .length; target = r .told .target; targeted = r .answers .targeted; unasked = alone r unasked }
 
+-- the request with the reply's id is at this place: where its kind is one that the reply answers, the slot there decides
+abbrev pub repliedIn : Requests → Reply → Typed → Bool → Option ℕ → Ruling
+repliedIn t r typed unasked none = unmatched typed (alone r unasked)
+repliedIn t r typed unasked (some i) =
+    cond (eqb (getD (t .kinds) i 0) (r .answers .first) || eqb (getD (t .kinds) i 0) (r .answers .second))
+    (Pending i (expected r unasked) typed (eqb (r .status) 0 && eqb (getD (t .kinds) i 0) (r .answers .first)) (scopeTo r (getD (t .kinds) i 0)))
+    (unmatched typed (alone r unasked))
+
 -- the slot of the request at place i is there
 abbrev pub settledBy : ℕ → Expected → Typed → Bool → Scope → Slot → Ruling
 settledBy i x typed opens scope slot =
@@ -82,14 +90,6 @@ awaited (Pending i x typed opens scope) = i
 abbrev pub settled : Ruling → Requests → Ruling
 settled r t = settledIn r (getD (t .slots) (awaited r) freeSlot)
 
--- the request with the reply's id is at this place
-abbrev pub answeredIn : Requests → Reply → Typed → Bool → Option ℕ → Ruling
-answeredIn t r typed unasked none = unmatched typed (alone r unasked)
-answeredIn t r typed unasked (some i) =
-    cond (eqb (getD (t .kinds) i 0) (r .answers .first) || eqb (getD (t .kinds) i 0) (r .answers .second))
-    (settledBy i (expected r unasked) typed (eqb (r .status) 0 && eqb (getD (t .kinds) i 0) (r .answers .first)) (scopeTo r (getD (t .kinds) i 0)) (getD (t .slots) i freeSlot))
-    (unmatched typed (alone r unasked))
-
 -- ---- data on a stream
 
 abbrev pub streamedBy : Rows → Requests → Endpoint → ℕ → Bool → Ruling
@@ -111,5 +111,5 @@ ruled h d t cases.Ack = cond (h .owed) (Passed Acknowledge) (Refused 26)
 ruled h d t cases.Cancel = withDevice h (Passed Nothing)
 ruled h d t cases.Filter = Passed Nothing
 ruled h d t (cases.Asks q typed starts transfer) = withDevice h (askedBy d t q typed starts transfer)
-ruled h d t (cases.Answers r typed unasked) = withDevice h (answeredIn t r typed unasked (lowest t (Id (r .told .id))))
+ruled h d t (cases.Answers r typed unasked) = withDevice h (repliedIn t r typed unasked (lowest t (Id (r .told .id))))
 ruled h d t (cases.Streams e ty transfer) = withDevice h (streamedBy d t e ty transfer)

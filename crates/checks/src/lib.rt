@@ -4,7 +4,7 @@ ghost use Rattle.device.specs.declared.Rows.{Rows};
 ghost use Rattle.requests.specs.declared.Requests.{Requests};
 ghost use Rattle.requests.specs.Requests.{Id, lowest, Lent};
 ghost use Rattle.checks.specs.Checks.{isBegun, isDone, mistypedBy};
-ghost use Rattle.checks.specs.Ruled.{askedBy, unmatched, scopeTo, settledBy, settledIn, awaited, settled, answeredIn, streamedBy, ruled};
+ghost use Rattle.checks.specs.Ruled.{askedBy, unmatched, scopeTo, settledBy, settledIn, awaited, repliedIn, streamedBy, ruled};
 ghost use Rattle.checks.specs.declared.Ruling.the-variants.{Passed, Refused};
 ghost use mathlib.Core.Bool.{cond};
 ghost use Rattle.events.specs.declared.Case.the-variants as cases;
@@ -198,7 +198,7 @@ fn rule_reply<'a>(
     typed: Typed,
     unasked: bool,
 ) -> Ruling
-    ensures { λ u. ⌜ ((t : Requests) → Lent t used (now (live .entry)) (now (kinds .entry)) (now (ids .entry)) → settled u t ≡ answeredIn t r typed unasked (lowest t (Id (r .told .id)))) ⌝ }
+    ensures { λ u. ⌜ ((t : Requests) → Lent t used (now (live .entry)) (now (kinds .entry)) (now (ids .entry)) → u ≡ repliedIn t r typed unasked (lowest t (Id (r .told .id)))) ⌝ }
 {
     let told = r.told;
     let a = r.answers;
@@ -314,7 +314,7 @@ pub fn rule<'a>(
     ids: &'a [u64; 96],
     c: Case,
 ) -> Ruling
-    ensures { λ r. ⌜ ((d : Rows) (t : Requests) → d .types ≡ now (types .entry) → d .streams ≡ now (streams .entry) → Lent t used (now (live .entry)) (now (kinds .entry)) (now (ids .entry)) → settled r t ≡ ruled h d t c) ⌝ }
+    ensures { λ r. ⌜ ((d : Rows) (t : Requests) → d .types ≡ now (types .entry) → d .streams ≡ now (streams .entry) → Lent t used (now (live .entry)) (now (kinds .entry)) (now (ids .entry)) → r ≡ ruled h d t c) ⌝ }
 {
     match c {
         Case::Hello(word) => Ruling::Passed(Change::Hello(word)),

@@ -26,7 +26,7 @@ use Rattle.gate.specs.declared.Answer.{Answer}
 use Rattle.gate.specs.declared.Decided.{Decided}
 use Rattle.frame.specs.Frame.{bytesAt}
 use Rattle.gate.specs.Offer.{outcome, offerOf, bodyIn}
-use Rattle.gate.specs.Decide.{concluded, changeIn, rowsIn, Decides}
+use Rattle.gate.specs.Decide.{concluded, changeIn, rowsTold, rowsIn, Decides}
 use Rattle.gate.specs.Settled.{made, offered}
 use Rattle.drive.specs.Records.{stands}
 use Rattle.drive.specs.Laws.{Driving, drive-starts}
@@ -51,7 +51,7 @@ module _ (from : Side) (s : Session) {hold : List ℕ} (piece : List ℕ) {hold�
   -- a wide change is made by `apply`
   pub wide-leaves : (holds : List ℕ) (base end : ℕ) → base ≤ end → end ≤ length holds → length hold′ ≡ length (midOf base (end - base) holds) → {new : Rows} {body : List ℕ}
       → body ≡ bodyIn (e .answer .handed) (bytesAt (e .answer .place) (e .answer .size) piece (midOf base (end - base) (putMid base (end - base) holds hold′)))
-      → ((from : Side) (s : Session) (bytes : List ℕ) → bodyIn (e .answer .handed) bytes ≡ body → new ≡ rowsIn from s (e .answer .handed) bytes)
+      → ((from : Side) (caps id : ℕ) → new ≡ rowsTold from caps id (e .answer .handed) body)
       → {y : Session} → y ≡ applied (record { head = h; rows = s .rows; requests = s .requests }) from c new
       → Sized (y .rows) (y .requests)
       → x ≡ y

@@ -1,5 +1,5 @@
 -- A whole packet taken by the code comes to the call's outcome: one that the wire checks refuse (`packet-refused`), and one that is ruled on
--- (`packet-ruled`).
+-- (`packet-ruled`, `packet-ruled-out`).
 -- What the code has at hand is what the session has (`same-link`, `same-held`). The bytes that it reads are the packet's (`lying`), and the header
 -- that it puts together is theirs (`header-is`), so that its reading is theirs too (`read-is`).
 -- Assumes nothing.
@@ -27,15 +27,15 @@ use Rattle.frame.specs.Laws.{Cuts, Framed, framed, header-is}
 use Rattle.events.specs.declared.Case.{Case}
 use Rattle.events.specs.Event.{Shows}
 use Rattle.checks.specs.declared.Ruling.{Ruling}
-use Rattle.checks.specs.Ruled.{settled, ruled}
+use Rattle.checks.specs.declared.Ruling.the-variants.{Refused as RuledOut}
+use Rattle.checks.specs.Ruled.{ruled}
 use Rattle.session.specs.declared.Session.{Session}
 use Rattle.session.specs.Session.{linkTo, linkOf, heldIn}
 use Rattle.gate.specs.declared.Decided.{Decided}
-use Rattle.gate.specs.declared.Handed.the-variants.{Passed as HandedOut}
 use Rattle.gate.specs.Offer.{heldBytes}
-use Rattle.gate.specs.Decide.{endedWith, Decides}
+use Rattle.gate.specs.Decide.{endedWith, passedWith, unrefused, Decides}
 use Rattle.gate.specs.Laws.{Ready}
-use Rattle.gate.specs.Called.{lying, refused-call, ruled-call}
+use Rattle.gate.specs.Called.{lying, refused-call, ruled-call, ruled-out-call}
 
 module _ (from : Side) (s : Session) (hold piece : List ℕ) {h : Head} {l : Link} {held : ℕ} (eh : s .head ≡ h) (el : l ≡ linkTo from h) (ed : held ≡ heldIn from h) where
   pub same-link : l ≡ linkOf from s
@@ -73,10 +73,21 @@ module _ (from : Side) (s : Session) (hold piece : List ℕ) {h : Head} {l : Lin
       pub packet-refused : {d : Decided} {n : ℕ} → reading ≡ Refused n → d ≡ endedWith n taken place size 0 (h .stopped || eqb kind 0) → Decides from s d hold piece after
       packet-refused e q = rw (q, et, ep, ea, same-held, ← eh) (refused-call from s hold piece r cut (rw e at read-is))
 
-      pub packet-ruled : {g : Header} {p : Packet} {x : Case} (u : Ruling) → reading ≡ Passed g p → Shows (l .sender) (g .id) p body x → settled u (s .requests) ≡ ruled h (s .rows) (s .requests) x
-          → Decides from s (record { answer = record { number = 0; taken = taken; place = place; size = size; handed = HandedOut g p }; held = 0; stopped = h .stopped; ruling = u }) hold piece after
-      packet-ruled {g} {p} {x} u e m q =
-          let z : told (linkOf from s) bytes (Passed g p) ≡ readOf (linkOf from s) bytes = rw e at read-is in
-          let w : head ≡ g .size = sym (ap (λ (y : Header). y .size) (passing z refl .header) ∙ of-bytes .size) in
-          let v : Shows from (g .id) p (drop (g .size) bytes) x = rw (ap (λ (y : Link). y .sender) el, body-is, w) at m in
-          rw (et, ep, ea, same-held, ← eh) (ruled-call from s hold piece r cut g p z x u v (rw (← eh) at q))
+      -- a packet that came out of the wire checks, and its case
+      module _ {g : Header} {p : Packet} {x : Case} (e : reading ≡ Passed g p) (m : Shows (l .sender) (g .id) p body x) where
+        passed-is : told (linkOf from s) bytes (Passed g p) ≡ readOf (linkOf from s) bytes
+        passed-is = rw e at read-is
+
+        shown : Shows from (g .id) p (drop (g .size) bytes) x
+        shown =
+            let w : head ≡ g .size = sym (ap (λ (y : Header). y .size) (passing passed-is refl .header) ∙ of-bytes .size) in
+            rw (ap (λ (y : Link). y .sender) el, body-is, w) at m
+
+        pub packet-ruled : {d : Decided} (u : Ruling) → u ≡ ruled h (s .rows) (s .requests) x → {v : Ruling} → u ≡ v → unrefused v ≡ v → d ≡ passedWith taken place size g p (h .stopped) u
+            → Decides from s d hold piece after
+        packet-ruled u q k z ed =
+            rw (ed, et, ep, ea, same-held, ← eh) (ruled-call from s hold piece r cut g p passed-is x u shown (rw (← eh) at q) (ap unrefused k ∙ z ∙ sym k))
+
+        pub packet-ruled-out : {d : Decided} {u : Ruling} {n : ℕ} → u ≡ ruled h (s .rows) (s .requests) x → u ≡ RuledOut n → d ≡ endedWith n taken place size 0 (h .stopped)
+            → Decides from s d hold piece after
+        packet-ruled-out {n = n} q k ed = rw (ed, et, ep, ea, same-held, ← eh) (ruled-out-call from s hold piece r cut g p passed-is x _ shown (rw (← eh) at q) n k)

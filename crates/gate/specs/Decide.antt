@@ -1,26 +1,32 @@
 -- A call decided over the columns of a session, before its changes are made.
 -- Assumes nothing: these are definitions.
 use Prim.Native.Nat.{ℕ}
-use mathlib.Core.Bool.{Bool}
-use mathlib.Core.List.{List}
+use mathlib.Core.Bool.{Bool, true, false, cond}
+use mathlib.Core.List.{List, _++_}
 use mathlib.Core.Path.{_≡_}
-use lib.ListN.{getD, drop}
+use lib.ListN.{getD, take}
+use lib.Dec.{eqb}
 use Rattle.header.specs.declared.Side.{Side}
+use Rattle.header.specs.declared.Header.{Header}
 use Rattle.header.specs.Link.{sharedSet}
+use Rattle.kinds.specs.Codec.{decode, readNumber}
+use Rattle.packet.specs.declared.Packet.{Packet}
 use Rattle.packet.specs.Packet.{contentOf}
+use Rattle.decoder.specs.Reading.{readOf}
 use Rattle.frame.specs.declared.Place.{Place}
-use Rattle.frame.specs.Frame.{bytesAt}
+use Rattle.frame.specs.Cut.{Cut, more, bad, whole}
+use Rattle.frame.specs.Frame.{cutAt, bytesAt}
 use Rattle.device.specs.declared.Head.{Head}
 use Rattle.device.specs.declared.Rows.{Rows}
 use Rattle.device.specs.Device.{startRows}
 use Rattle.requests.specs.declared.Slot.{Slot}
 use Rattle.requests.specs.Requests.{freeSlot}
-use Rattle.events.specs.Event.{eventOf}
+use Rattle.events.specs.Event.{eventOf, caseOf}
 use Rattle.checks.specs.declared.Change.{Change}
 use Rattle.checks.specs.declared.Change.the-variants.{Nothing as NoChange}
 use Rattle.checks.specs.declared.Ruling.{Ruling}
 use Rattle.checks.specs.declared.Ruling.the-variants.{Refused, Passed as Passes, Pending}
-use Rattle.checks.specs.Ruled.{settledIn, awaited}
+use Rattle.checks.specs.Ruled.{settledIn, awaited, ruled}
 use Rattle.session.specs.declared.Session.{Session}
 use Rattle.session.specs.Session.{linkOf, heldTo}
 use Rattle.session.specs.Step.{applied}
@@ -28,7 +34,8 @@ use Rattle.gate.specs.declared.Answer.{Answer}
 use Rattle.gate.specs.declared.Decided.{Decided}
 use Rattle.gate.specs.declared.Handed.{Handed}
 use Rattle.gate.specs.declared.Handed.the-variants.{Nothing, Passed}
-use Rattle.gate.specs.Offer.{Outcome, offerOf, outcome}
+use Rattle.gate.specs.Verdict.{handedAs}
+use Rattle.gate.specs.Offer.{Outcome, heldBytes, barred, offerOf, outcome, bodyIn}
 
 -- ---- a decision and the slot that it waits for
 
@@ -36,6 +43,11 @@ use Rattle.gate.specs.Offer.{Outcome, offerOf, outcome}
 abbrev pub endedWith : ℕ → ℕ → Place → ℕ → ℕ → Bool → Decided
 endedWith n taken place size held stopped =
     record { answer = record { number = n; taken = taken; place = place; size = size; handed = Nothing }; held = held; stopped = stopped; ruling = Passes NoChange }
+
+-- a call by which a packet passes, or waits for a slot
+abbrev pub passedWith : ℕ → Place → ℕ → Header → Packet → Bool → Ruling → Decided
+passedWith taken place size h p stopped u =
+    record { answer = record { number = 0; taken = taken; place = place; size = size; handed = Passed h p }; held = 0; stopped = stopped; ruling = u }
 
 -- an answer by which a packet is refused
 abbrev pub refusedWith : Answer → ℕ → Answer
@@ -57,10 +69,18 @@ changeIn (Pending i x typed opens scope) = NoChange
 
 -- ---- the call that a decision comes to
 
--- the rows that a packet which is handed out announces
+-- the rows that a packet which is handed out announces, by its body
+abbrev pub rowsTold : Side → ℕ → ℕ → Handed → List ℕ → Rows
+rowsTold from caps id Nothing body = startRows
+rowsTold from caps id (Passed h p) body = eventOf from (contentOf caps id p body) .rows
+
+abbrev pub idIn : Handed → ℕ
+idIn Nothing = 0
+idIn (Passed h p) = h .id
+
+-- and by its bytes
 abbrev pub rowsIn : Side → Session → Handed → List ℕ → Rows
-rowsIn from s Nothing bytes = startRows
-rowsIn from s (Passed h p) bytes = eventOf from (contentOf (sharedSet (linkOf from s)) (h .id) p (drop (h .size) bytes)) .rows
+rowsIn from s handed bytes = rowsTold from (sharedSet (linkOf from s)) (idIn handed) handed (bodyIn handed bytes)
 
 abbrev pub sessionAfter : Side → Session → Decided → Rows → Session
 sessionAfter from s d new = applied (record { head = heldTo from (d .held) (d .stopped) (s .head); rows = s .rows; requests = s .requests }) from (changeIn (d .ruling)) new
@@ -68,6 +88,39 @@ sessionAfter from s d new = applied (record { head = heldTo from (d .held) (d .s
 unfoldable pub called : Side → Session → Decided → List ℕ → List ℕ → Outcome
 called from s d piece hold =
     outcome (linkOf from s) (record { session = sessionAfter from s d (rowsIn from s (d .answer .handed) (bytesAt (d .answer .place) (d .answer .size) piece hold)); answer = d .answer }) piece hold
+
+-- ---- the ruling of a call
+
+-- a refusal is answered at once, and nothing is left to do
+abbrev pub unrefused : Ruling → Ruling
+unrefused (Refused n) = Passes NoChange
+unrefused (Passes c) = Passes c
+unrefused (Pending i x typed opens scope) = Pending i x typed opens scope
+
+-- a whole packet that the wire checks let through is ruled on by its case
+abbrev pub packetRuling : Side → Session → List ℕ → Ruling
+packetRuling from s bytes =
+    cond (eqb (readNumber (linkOf from s) bytes) 0)
+    (unrefused (ruled (s .head) (s .rows) (s .requests) (caseOf (eventOf from (decode (linkOf from s) bytes)))))
+    (Passes NoChange)
+
+abbrev pub rulingByCut : Side → Session → List ℕ → Cut → Ruling
+rulingByCut from s bytes more = Passes NoChange
+rulingByCut from s bytes (bad n) = Passes NoChange
+rulingByCut from s bytes (whole n) = packetRuling from s (take n bytes)
+
+unfoldable pub rulingAt : Side → Session → List ℕ → List ℕ → Ruling
+rulingAt from s hold piece =
+    cond (eqb (barred from s hold) 0)
+    (rulingByCut from s (heldBytes from s hold ++ piece) (cutAt (linkOf from s) (heldBytes from s hold ++ piece)))
+    (Passes NoChange)
+
+abbrev pub waits : Ruling → Bool
+waits (Refused n) = false
+waits (Passes c) = false
+waits (Pending i x typed opens scope) = true
+
+-- ---- what a decision is
 
 -- these are the head and the columns of a session that are lent to the decision
 pub record Lends (s : Session) (h : Head) (types : List ℕ) (streams : List Bool) (used : ℕ) (live : List Bool) (kinds ids : List ℕ) : Type 0 where
@@ -79,6 +132,14 @@ pub record Lends (s : Session) (h : Head) (types : List ℕ) (streams : List Boo
   pub kinds-lent : s .requests .kinds ≡ kinds
   pub ids-lent : s .requests .ids ≡ ids
 
--- for every session that has these, the decision with the slot of the place that it waits for comes to the call's outcome
-abbrev pub Decides : Side → Session → Decided → List ℕ → List ℕ → List ℕ → Type 0
-Decides from s d hold piece after = called from s (concluded d (getD (s .requests .slots) (awaited (d .ruling)) freeSlot)) piece after ≡ offerOf from s hold piece
+-- the answer is that of a packet that passes: what is handed out is its reading
+pub record Reads (from : Side) (s : Session) (a : Answer) (piece after : List ℕ) : Type 0 where
+  pub number : a .number ≡ 0
+  pub handed : handedAs (linkOf from s) (bytesAt (a .place) (a .size) piece after) (a .handed) ≡ readOf (linkOf from s) (bytesAt (a .place) (a .size) piece after) .handed
+
+-- for every session that has these: with the slot of the place that it waits for, the decision comes to the call's outcome; its ruling is the call's; and
+-- where it waits, its answer is that of a packet that passes
+pub record Decides (from : Side) (s : Session) (d : Decided) (hold piece after : List ℕ) : Type 0 where
+  pub comes : called from s (concluded d (getD (s .requests .slots) (awaited (d .ruling)) freeSlot)) piece after ≡ offerOf from s hold piece
+  pub ruling : d .ruling ≡ rulingAt from s hold piece
+  pub told : waits (d .ruling) ≡ true → Reads from s (d .answer) piece after

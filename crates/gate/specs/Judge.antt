@@ -77,11 +77,14 @@ module _ (s : Session) (from : Side) (bytes : List ℕ) where
     unfolding verdictOf judged nextFor eventOf numberOf
     judged-as = rw (passing t refl .number) (cases (eqb number 0) (λ b. rw b) (λ b. rw b (rw b)))
 
+    -- the case that it shows is that of its event
+    pub case-is : (x : Case) → Shows from (h .id) p (drop (h .size) bytes) x → x ≡ caseOf event
+    case-is x m = m (sharedSet (linkOf from s)) ∙ ap (λ (y : Content). caseOf (eventOf from y)) content-is
+
     pub verdict-ruled : idsDiffer (s .requests) ≡ true → (x : Case) (u : Ruling) → Shows from (h .id) p (drop (h .size) bytes) x
-        → settled u (s .requests) ≡ ruled (s .head) (s .rows) (s .requests) x
+        → u ≡ ruled (s .head) (s .rows) (s .requests) x
         → verdictOf s from bytes ≡ ruledAs s from (told (linkOf from s) bytes (Read h p) .handed) (eventOf from content .rows) (settled u (s .requests))
     unfolding rulingOf
     verdict-ruled d x u m q =
-        let e : x ≡ caseOf event = m (sharedSet (linkOf from s)) ∙ ap (λ (y : Content). caseOf (eventOf from y)) content-is in
-        let z : settled u (s .requests) ≡ ruledBy number change = q ∙ ap (ruled (s .head) (s .rows) (s .requests)) e ∙ ruled-is (s .head) (s .rows) (s .requests) d event proper in
+        let z : settled u (s .requests) ≡ ruledBy number change = ap (λ (v : Ruling). settled v (s .requests)) (q ∙ ap (ruled (s .head) (s .rows) (s .requests)) (case-is x m)) ∙ ruled-is (s .head) (s .rows) (s .requests) d event proper in
         judged-as ∙ sym (λ i. ruledAs s from (t i .handed) (eventOf from (content-is i) .rows) (z i))

@@ -2,10 +2,11 @@
 -- Each step of the code is put in for what it equals; the decision's contract is then the claim.
 -- Assumes nothing.
 use Prim.Native.Nat.{ℕ}
-use mathlib.Core.Path.{_≡_, refl, sym, ap, _∙_}
+use mathlib.Core.Path.{_≡_, refl, ap, _∙_}
 use mathlib.Core.List.{List}
 use lib.ListN.{getD}
 use Rattle.header.specs.declared.Side.{Side}
+use Rattle.header.specs.Link.{sharedSet}
 use Rattle.device.specs.declared.Head.{Head}
 use Rattle.device.specs.declared.Rows.{Rows}
 use Rattle.requests.specs.declared.Slot.{Slot}
@@ -17,8 +18,9 @@ use Rattle.session.specs.declared.Session.{Session}
 use Rattle.session.specs.Session.{linkOf, heldTo}
 use Rattle.session.specs.Step.{applied}
 use Rattle.gate.specs.declared.Decided.{Decided}
+use Rattle.gate.specs.declared.Handed.{Handed}
 use Rattle.gate.specs.Offer.{offerOf, outcome, bodyIn}
-use Rattle.gate.specs.Decide.{concluded, changeIn, rowsIn, called, Decides}
+use Rattle.gate.specs.Decide.{concluded, changeIn, rowsTold, idIn, rowsIn, called, Decides}
 
 -- the decision with the slot of the place that it waits for
 pub settled-is : (s : Session) (d : Decided) {e : Decided} {slot : Slot} {w : ℕ} → w ≡ awaited (d .ruling) → slot ≡ getD (s .requests .slots) w freeSlot → e ≡ concluded d slot
@@ -38,11 +40,14 @@ module _ (from : Side) (s : Session) (hold piece after : List ℕ) (d : Decided)
   made q =
       ap (λ (y : Session). outcome (linkOf from s) (record { session = y; answer = e .answer }) piece after) (q ∙ rw (eh, ec) refl)
       ∙ ap (λ (y : Decided). called from s y piece after) ee
-      ∙ decides
+      ∙ decides .comes
 
   -- with the rows as the code reads them
   pub offered : {new : Rows} {body : List ℕ} {x : Session} → body ≡ bodyIn (e .answer .handed) bytes
-      → ((from : Side) (s : Session) (bytes : List ℕ) → bodyIn (e .answer .handed) bytes ≡ body → new ≡ rowsIn from s (e .answer .handed) bytes)
+      → ((from : Side) (caps id : ℕ) → new ≡ rowsTold from caps id (e .answer .handed) body)
       → x ≡ applied (record { head = h; rows = s .rows; requests = s .requests }) from c new
       → outcome (linkOf from s) (record { session = x; answer = e .answer }) piece after ≡ offerOf from s hold piece
-  offered eb en ex = made (ex ∙ ap (applied (record { head = h; rows = s .rows; requests = s .requests }) from c) (en from s bytes (sym eb)))
+  offered eb en ex =
+      let a : Handed = e .answer .handed in
+      let l = sharedSet (linkOf from s) in
+      made (ex ∙ ap (applied (record { head = h; rows = s .rows; requests = s .requests }) from c) (en from l (idIn a) ∙ ap (rowsTold from l (idIn a) a) eb))

@@ -12,7 +12,7 @@ ghost use Rattle.checks.specs.Ruled.{awaited};
 ghost use Rattle.session.specs.declared.Session.{Session};
 ghost use Rattle.session.specs.Session.{linkTo, linkOf, heldIn};
 ghost use Rattle.gate.specs.Offer.{isWaiting, heldWhole, barred, offerOf, outcome, bodyIn, dataIn};
-ghost use Rattle.gate.specs.Decide.{endedWith, concluded, changeIn, rowsIn, Lends, Decides};
+ghost use Rattle.gate.specs.Decide.{endedWith, passedWith, concluded, changeIn, rowsTold, Lends, Decides};
 ghost use Rattle.gate.specs.Laws.{Ready};
 ghost use Rattle.gate.specs.Write.{shut, WritesBy};
 use checks::Change;
@@ -147,6 +147,34 @@ fn ended(number: u8, taken: usize, place: Place, size: usize, held: usize, stopp
     }
 }
 
+// A call by which a packet passes, or waits for a slot.
+fn passing(
+    taken: usize,
+    place: Place,
+    size: usize,
+    g: Header,
+    p: Packet,
+    stopped: bool,
+    ruling: Ruling,
+) -> Decided
+    ensures { λ r. ⌜ r ≡ passedWith taken place size g p stopped ruling ⌝ }
+{
+    let handed = Handed::Passed(g, p);
+    let answer = Answer {
+        number: 0,
+        taken,
+        place,
+        size,
+        handed,
+    };
+    Decided {
+        answer,
+        held: 0,
+        stopped,
+        ruling,
+    }
+}
+
 // The packet is whole: it is completed, read and ruled on.
 fn take_packet<'a>(
     h: Head,
@@ -192,19 +220,12 @@ fn take_packet<'a>(
                 ids,
                 case_of(from, g.id, p, body),
             );
-            let handed = Handed::Passed(g, p);
-            let answer = Answer {
-                number: 0,
-                taken,
-                place,
-                size,
-                handed,
-            };
-            Decided {
-                answer,
-                held: 0,
-                stopped: h.stopped,
-                ruling,
+            match ruling {
+                Ruling::Refused(n) => ended(n, taken, place, size, 0, h.stopped),
+                Ruling::Passed(_) => passing(taken, place, size, g, p, h.stopped, ruling),
+                Ruling::Pending(_, _, _, _, _) => {
+                    passing(taken, place, size, g, p, h.stopped, ruling)
+                }
             }
         }
     }
@@ -312,7 +333,7 @@ pub fn change_of(d: Decided) -> Change
 
 // The rows that a packet which is handed out announces.
 pub fn rows_told(handed: Handed, body: &[u8]) -> Rows
-    ensures { λ r. ⌜ ((from : Side) (s : Session) (bytes : List ℕ) → bodyIn handed bytes ≡ now (body .entry) → r ≡ rowsIn from s handed bytes) ⌝ }
+    ensures { λ r. ⌜ ((from : Side) (caps id : ℕ) → r ≡ rowsTold from caps id handed (now (body .entry))) ⌝ }
 {
     match handed {
         Handed::Nothing => start_rows(),

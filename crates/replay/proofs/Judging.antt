@@ -27,7 +27,7 @@ use Rattle.requests.specs.Requests.{freeSlot, idsDiffer}
 use Rattle.events.specs.declared.Case.{Case}
 use Rattle.events.specs.Event.{eventOf, Shows, Announces}
 use Rattle.checks.specs.declared.Ruling.{Ruling}
-use Rattle.checks.specs.Ruled.{settledIn, awaited, settled, ruled}
+use Rattle.checks.specs.Ruled.{settledIn, awaited, ruled}
 use Rattle.session.specs.declared.Session.{Session}
 use Rattle.session.specs.Session.{linkOf}
 use Rattle.gate.specs.Verdict.{stoppedNow, refusedAs, VerdictTold, verdictOf}
@@ -48,7 +48,7 @@ module _ (s : Session) (from : Side) (bytes : List ℕ) {l : Link} (el : l ≡ l
   pub judge-rules : {h : Header} {p : Packet} {body : List ℕ} {x : Case} (u : Ruling) {i : ℕ} {slot : Slot} {ruling : Ruling} {new : Rows} {j : Judged} → r ≡ Passed h p
       → body ≡ slice (h .size) (length bytes) bytes
       → Shows from (h .id) p body x
-      → settled u (s .requests) ≡ ruled (s .head) (s .rows) (s .requests) x
+      → u ≡ ruled (s .head) (s .rows) (s .requests) x
       → i ≡ awaited u
       → slot ≡ getD (s .requests .slots) i freeSlot
       → ruling ≡ settledIn u slot

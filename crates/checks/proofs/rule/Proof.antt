@@ -1,6 +1,6 @@
 -- `checks::rule` meets its contract: each arm is its case of the definition (`by-case`).
 -- Assumes nothing.
-use mathlib.Core.Path.{refl, sym, ap, _∙_}
+use mathlib.Core.Path.{refl, _∙_}
 use borrow.Author.Needs.{needs}
 use Rattle.checks.specs.declared.Change.the-variants.{Endpoints, Acknowledge}
 use Rattle.checks.specs.declared.Ruling.the-variants.{Refused, Passed}
@@ -153,7 +153,7 @@ unfolding ruled
 returns-14 c =
     let a = c .before .before .before .before .before .args in
     λ d t p s l.
-    c .rule-reply .ensures t l ∙ held (a .h .present) _ (Refused 25) (c .before .if4 .taken) ∙ sym (ap (ruled (a .h) d t) (c .before .before .before .c3 .given .1))
+    by-case (a .h) d t (a .c) _ _ (c .before .before .before .c3 .given .1) (c .rule-reply .ensures t l ∙ held (a .h .present) _ (Refused 25) (c .before .if4 .taken))
 
 returns-15 : tie.Need-returns-15
 unfolding ruled

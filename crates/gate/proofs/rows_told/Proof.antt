@@ -1,15 +1,9 @@
--- `gate::rows_told` meets its contract: a packet's body stands behind its header.
+-- `gate::rows_told` meets its contract: a packet that is handed out announces the rows in its body, and where none is they are the first ones.
 -- Assumes nothing.
-use Prim.Native.Nat.{ℕ}
 use mathlib.Core.Path.{sym, ap, _∙_}
-use mathlib.Core.List.{List}
-use Rattle.header.specs.Link.{sharedSet}
-use Rattle.packet.specs.Packet.{contentOf}
-use Rattle.events.specs.Event.{eventOf}
-use Rattle.session.specs.Session.{linkOf}
+use denote.Ref.{now}
 use Rattle.gate.specs.declared.Handed.{Handed}
-use Rattle.gate.specs.Offer.{bodyIn}
-use Rattle.gate.specs.Decide.{rowsIn}
+use Rattle.gate.specs.Decide.{rowsTold}
 use borrow.Author.Needs.{needs}
 use Rattle.gate.proofs.rows_told.Statement.{statement}
 use Rattle.gate.proofs.rows_told.Tie as tie
@@ -27,16 +21,12 @@ announced-requires : tie.Need-announced-requires
 announced-requires c κs = search needs
 
 returns : tie.Need-returns
-returns c = λ from s bytes e. c .start-rows .ensures ∙ ap (λ (x : Handed). rowsIn from s x bytes) (sym (c .before .enum-told .given .1))
+returns c = λ from caps id. c .start-rows .ensures ∙ ap (λ (x : Handed). rowsTold from caps id x (now (c .before .before .before .before .args .body))) (sym (c .before .enum-told .given .1))
 
 returns-2 : tie.Need-returns-2
 returns-2 c =
-    λ from s bytes e.
-    let g = c .before .before .handed .given in
-    let b = ap (λ (x : Handed). bodyIn x bytes) (sym (g .1)) ∙ e in
-    c .announced .ensures from (sharedSet (linkOf from s)) (g .0 .0 .id)
-    ∙ ap (λ (y : List ℕ). eventOf from (contentOf (sharedSet (linkOf from s)) (g .0 .0 .id) (g .0 .1 .0) y) .rows) (sym b)
-    ∙ ap (λ (x : Handed). rowsIn from s x bytes) (sym (g .1))
+    λ from caps id.
+    c .announced .ensures from caps id ∙ ap (λ (x : Handed). rowsTold from caps id x (now (c .before .before .before .before .before .args .body))) (sym (c .before .before .handed .given .1))
 
 pub rows-told-spec : {M : Type 1} → statement M
 rows-told-spec =
