@@ -24,7 +24,7 @@ use packet::Optional16;
 use packet::Packet;
 use packet::part_of;
 use rules::facts_of;
-use rules::wire_number;
+use rules::number_by;
 
 // The number of a packet that was to be written, and the bytes put out: none where it is not 0.
 pub struct Written {
@@ -499,7 +499,7 @@ pub fn write(l: Link, id: u64, p: Packet, body: &[u8], out: &mut [u8]) -> Writte
     }
     let width = id_width(l, kind);
     let size = 8 + width + f.head + n;
-    let number = wire_number(l, id, p, body);
+    let number = number_by(l, id, f, body);
     if number != 0 {
         return Written { number, size: 0 };
     }

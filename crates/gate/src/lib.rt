@@ -341,7 +341,8 @@ pub fn rows_told(handed: Handed, body: &[u8]) -> Rows
     }
 }
 
-// Offers a piece of what a side sends: the core, which takes and returns the session. The held bytes stand at the front of hold.
+// Offers a piece of what a side sends: the core, which takes and returns the session. The held bytes stand at the front of hold. The
+// session is taken apart into its columns, which are lent and changed, and put together again; a wide change goes by `apply`.
 pub fn offer(s: Session, from: Side, hold: &mut [u8], piece: &[u8]) -> Offered
     ensures { λ r. ⌜ outcome (linkOf from s) r (now (piece .entry)) (now (hold .exit)) ≡ offerOf from s (now (hold .entry)) (now (piece .entry)) ⌝ }
 {

@@ -27,25 +27,9 @@ use Rattle.kinds.specs.Slots.{found, few, only-hello}
 use Rattle.packet.specs.declared.Packet.{Packet}
 use Rattle.packet.specs.Packet.{Shown, shownOf, inPart, contentOf}
 use Rattle.rules.specs.declared.Facts.{Facts}
-use Rattle.rules.specs.Facts.{Shows, mayFollow}
+use Rattle.rules.specs.Facts.{Shows, mayFollow, numberWhere, numberBy}
 use Rattle.rules.proofs.Place.{none-bad}
 use Rattle.rules.proofs.Words.{only-words}
-
--- the number by the slot, the id and the facts, where the size and a hello's words are judged
-abbrev numberWhere : Link → ℕ → ℕ → Facts → Bool → Bool → ℕ
-numberWhere l id slot f sized alone =
-    inOrder (not (sends (kindAt slot .sender) (l .sender)))
-    (not (shared (sharedSet l) (kindAt slot .needs)) || f .surplus || (not (eqb slot 0) && not (hasBit (sharedSet l) 5) && leb 4294967296 id))
-    (not sized)
-    (not (eqb (f .bad) 65536))
-    alone
-
--- and they are judged by the packet's part of the body
-abbrev numberBy : Link → ℕ → Facts → List ℕ → ℕ
-numberBy l id f rows =
-    numberWhere l id (f .slot) f
-    (leb (f .table) (length rows) && mayFollow (f .slot) (f .payload) (length rows - f .table))
-    (eqb (f .slot) 0 && (hasBit (le 4 rows (f .table)) 0 && not (hasBit (le 4 rows (f .table)) 4)))
 
 -- test by test; where the table is not whole (`go false`), 23 holds and the tests behind it do not matter
 pub number : (l : Link) (id : ℕ) (p : Packet) (body : List ℕ) (f : Facts) → id < 256 ^ 8 → Shows (l .sender) (sharedSet l) id p body f

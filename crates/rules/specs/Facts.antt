@@ -1,6 +1,6 @@
 -- What the code finds out of a packet before it gives the number, and that each fact is the table's, for the packet's content.
 -- Assumes nothing: these are definitions.
-use Prim.Native.Nat.{ℕ, zero, suc, _+_, _/_, _%_, _≤_, _<_}
+use Prim.Native.Nat.{ℕ, zero, suc, _+_, _-_, _/_, _%_, _≤_, _<_}
 use mathlib.Core.Path.{_≡_}
 use mathlib.Core.Bool.{Bool, true, false, cond, not, _&&_, _||_}
 use mathlib.Core.List.{List}
@@ -11,9 +11,11 @@ use Rattle.number.specs.Little.{le}
 use Rattle.number.specs.Bits.{hasBit}
 use Rattle.endpoint.specs.declared.Endpoint.{Endpoint}
 use Rattle.header.specs.declared.Side.{Side}
+use Rattle.header.specs.declared.Link.{Link}
+use Rattle.header.specs.Link.{sharedSet}
 use Rattle.kinds.specs.Table.{kindAt}
-use Rattle.kinds.specs.Content.{size, bytes}
-use Rattle.kinds.specs.Number.{isGuest, onward, addressOk, zeroAt, surplus, complete, tailOk, bad}
+use Rattle.kinds.specs.Content.{shared, size, bytes}
+use Rattle.kinds.specs.Number.{sends, isGuest, onward, addressOk, zeroAt, surplus, complete, tailOk, bad, inOrder}
 use Rattle.packet.specs.declared.Part.{Part}
 use Rattle.packet.specs.declared.Optional16.{Optional16}
 use Rattle.packet.specs.declared.Optional16.the-variants.{Absent, Present}
@@ -147,3 +149,21 @@ pub record Shows (from : Side) (caps id : ℕ) (p : Packet) (body : List ℕ) (f
   pub surplus : surplus caps (kindAt (f .slot) .fields) (contentOf caps id p body .fields) ≡ f .surplus
   -- where the table is cut short 23 comes first, so the rule speaks of a whole one
   pub bad : leb (f .table) (length (inPart (f .rest) body)) ≡ true → placeOf (bad from caps (kindAt (f .slot)) (contentOf caps id p body)) ≡ f .bad
+
+-- ---- the number by the facts
+
+-- the number by the slot, the id and the facts, where the size and a hello's words are judged
+abbrev pub numberWhere : Link → ℕ → ℕ → Facts → Bool → Bool → ℕ
+numberWhere l id slot f sized alone =
+    inOrder (not (sends (kindAt slot .sender) (l .sender)))
+    (not (shared (sharedSet l) (kindAt slot .needs)) || f .surplus || (not (eqb slot 0) && not (hasBit (sharedSet l) 5) && leb 4294967296 id))
+    (not sized)
+    (not (eqb (f .bad) 65536))
+    alone
+
+-- and they are judged by the packet's part of the body
+abbrev pub numberBy : Link → ℕ → Facts → List ℕ → ℕ
+numberBy l id f rows =
+    numberWhere l id (f .slot) f
+    (leb (f .table) (length rows) && mayFollow (f .slot) (f .payload) (length rows - f .table))
+    (eqb (f .slot) 0 && (hasBit (le 4 rows (f .table)) 0 && not (hasBit (le 4 rows (f .table)) 4)))

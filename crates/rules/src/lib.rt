@@ -10,8 +10,8 @@ ghost use Rattle.header.specs.Link.{sharedSet};
 ghost use Rattle.kinds.specs.Number.{isGuest, onward, addressOk, zeroAt, inOrder, wireNumber};
 ghost use Rattle.packet.specs.declared.Packet.{Packet};
 ghost use Rattle.packet.specs.declared.Packet.the-variants.{Control, Bulk, Iso, Interrupt, BufferedBulk};
-ghost use Rattle.packet.specs.Packet.{contentOf};
-ghost use Rattle.rules.specs.Facts.{Shows, factsOf, isGiven, typePlace, mayFollow, noId, typeOk, helloFacts, connectFacts, endpointFacts, filterFacts, controlFacts, bulkFacts, isoFacts, interruptFacts, bufferedFacts};
+ghost use Rattle.packet.specs.Packet.{inPart, contentOf};
+ghost use Rattle.rules.specs.Facts.{Shows, numberBy, factsOf, isGiven, typePlace, mayFollow, noId, typeOk, helloFacts, connectFacts, endpointFacts, filterFacts, controlFacts, bulkFacts, isoFacts, interruptFacts, bufferedFacts};
 use endpoint::Endpoint;
 use endpoint::is_address;
 use endpoint::is_in;
@@ -632,13 +632,12 @@ pub fn buffered_number(
     )
 }
 
-// The wire checks 21 to 24 and 13 of a packet with its body, for reader and writer alike; a `Packet` is of a known kind, so 20 is not among them.
-pub fn wire_number(l: Link, id: u64, p: Packet, body: &[u8]) -> u8
-    ensures { λ r. ⌜ r ≡ wireNumber l (contentOf (sharedSet l) id p (now (body .entry))) ⌝ }
+// The wire checks 21 to 24 and 13 by the facts of a packet, as `facts_of` finds them in it with its body.
+pub fn number_by(l: Link, id: u64, f: Facts, body: &[u8]) -> u8
+    ensures { λ r. ⌜ (r ≡ numberBy l id f (inPart (f .rest) (now (body .entry)))) × ((p : Packet) → Shows (l .sender) (sharedSet l) id p (now (body .entry)) f → r ≡ wireNumber l (contentOf (sharedSet l) id p (now (body .entry)))) ⌝ }
 {
     let from = l.sender;
     let caps = shared_set(l);
-    let f = facts_of(from, caps, id, p, body);
     let slot = f.slot;
     let table = f.table;
     let rest = f.rest;
@@ -652,4 +651,13 @@ pub fn wire_number(l: Link, id: u64, p: Packet, body: &[u8]) -> u8
         f.bad != 65536,
         offers_streams_alone(slot, rows, table),
     )
+}
+
+// The same of a packet with its body, for reader and writer alike; a `Packet` is of a known kind, so 20 is not among them.
+pub fn wire_number(l: Link, id: u64, p: Packet, body: &[u8]) -> u8
+    ensures { λ r. ⌜ r ≡ wireNumber l (contentOf (sharedSet l) id p (now (body .entry))) ⌝ }
+{
+    let from = l.sender;
+    let caps = shared_set(l);
+    number_by(l, id, facts_of(from, caps, id, p, body), body)
 }

@@ -73,20 +73,25 @@ narrow m =
     let k = m .before .before .before .before .before .before in
     rw (m .id-width .ensures) (id-widths (λ w. w ≤ 8) (omega arith) (omega arith) (k .before .before .before .before .before .before .before .args .l) (k .kind-of .result))
 
+-- the number by the facts is the content's
+wire : (m : tie.After-number-by)
+    → let s = m .before .before .before .before .before .before .before .before .before .before .before .before .before .before .before in
+    m .number-by .result ≡ wireNumber (s .args .l) (said s)
+wire m = m .number-by .ensures .1 (m .before .before .before .before .before .before .before .before .before .before .before .before .before .before .before .args .p) (shows (m .before .before .before .before .before .before .before .before .before .before .before))
+
 -- ---- where nothing is wrong with the packet
 
 wired : (m : tie.Else2)
     → let s = m .before .before .before .before .before .before .before .before .before .before .before .before .before .before .before .before in
     wireNumber (s .args .l) (said s) ≡ 0
-wired m = rw (m .before .wire-number .ensures) at (m .if2 .left)
+wired m = rw (wire (m .before)) at (m .if2 .left)
 
 right : (m : tie.Else2)
     → let s = m .before .before .before .before .before .before .before .before .before .before .before .before .before .before .before .before in
     packetNumber (s .args .l) (said s) ≡ 0
 right m =
     let s = m .before .before .before .before .before .before .before .before .before .before .before .before .before .before .before .before in
-    let w = m .before .wire-number in
-    by-wire (s .args .l) (said s) (w .result) (passed (m .before .before .before .before)) (w .ensures) ∙ m .if2 .left
+    by-wire (s .args .l) (said s) (m .before .number-by .result) (passed (m .before .before .before .before)) (wire (m .before)) ∙ m .if2 .left
 
 octets : (m : tie.Else2) → Octets (m .before .before .before .before .before .before .before .before .before .before .before .before .before .before .before .before .args .body .now)
 octets m k = m .before .before .before .before .before .before .before .before .before .before .before .before .before .before .before .shared-slice-known .given k .fits
@@ -168,14 +173,14 @@ returns c =
     let n = c .before .header-number .result in
     refused (s .args .l) (said s) (s .args .out .now) n (by-header (s .args .l) (said s) n (headed (c .before)) (c .if1 .taken)) (c .if1 .taken)
 
-wire-number-requires : tie.Need-wire-number-requires
-wire-number-requires c κs = search needs
+number-by-requires : tie.Need-number-by-requires
+number-by-requires c κs = search needs
 
 returns-2 : tie.Need-returns-2
 returns-2 c =
     let s = c .before .before .before .before .before .before .before .before .before .before .before .before .before .before .before .before in
-    let w = c .before .wire-number in
-    refused (s .args .l) (said s) (s .args .out .now) (w .result) (by-wire (s .args .l) (said s) (w .result) (passed (c .before .before .before .before)) (w .ensures)) (c .if2 .taken)
+    let n = c .before .number-by .result in
+    refused (s .args .l) (said s) (s .args .out .now) n (by-wire (s .args .l) (said s) n (passed (c .before .before .before .before)) (wire (c .before))) (c .if2 .taken)
 
 id-width-requires : tie.Need-id-width-requires
 id-width-requires c κs = search needs
@@ -231,7 +236,7 @@ write-spec =
     add-size
     add-size-2
     add-size-3
-    wire-number-requires
+    number-by-requires
     returns-2
     returns-3
     head-of-requires
