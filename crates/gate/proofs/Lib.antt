@@ -1,5 +1,4 @@
 mod Barred
 mod Deciding
-mod InPlace
 mod Taken
 mod Writing

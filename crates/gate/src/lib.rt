@@ -420,15 +420,6 @@ pub fn offer(s: Session, from: Side, hold: &mut [u8], piece: &[u8]) -> Offered
     Offered { session, answer }
 }
 
-// The same for callers that keep a session record, which is changed in place.
-pub fn offer_in_place(s: &mut Session, from: Side, hold: &mut [u8], piece: &[u8]) -> Answer
-    ensures { λ r. ⌜ outcome (linkOf from (now (s .entry))) (record { session = now (s .exit); answer = r }) (now (piece .entry)) (now (hold .exit)) ≡ offerOf from (now (s .entry)) (now (hold .entry)) (now (piece .entry)) ⌝ }
-{
-    let r = offer(*s, from, hold, piece);
-    *s = r.session;
-    r.answer
-}
-
 // The bytes of the packet, or of the header that was refused, where they lie when the call is over.
 pub fn bytes_of<'a>(a: Answer, piece: &'a [u8], hold: &'a [u8]) -> &'a [u8]
     ensures { λ r. ⌜ now r ≡ bytesAt (a .place) (a .size) (now (piece .entry)) (now (hold .entry)) ⌝ }

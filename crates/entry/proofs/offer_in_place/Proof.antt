@@ -1,4 +1,4 @@
--- `gate::offer_in_place` meets its contract. Its MIR is the `function` of `InPlace`, at the types of the session, the side and the answer, and the walk of it is the one there, by hand: no plan covers a `&mut` to a struct.
+-- `entry::offer_in_place` meets its contract. Its MIR is the `function` of `InPlace`, at the types of the session, the side and the answer, and the walk of it is the one there, by hand: no plan covers a `&mut` to a struct.
 -- What stands around the walk is here: what the caller passes is taken apart (`walk`), what `gate::offer` asks is put together (`asks`), and what it gives is what the entry owes (`exits`).
 -- All that the proof knows of `gate::offer` is that it meets its contract, an equation of the session and the answer that it returns. The entry's is the same equation of the session that the borrow ends at and the answer, so it needs no lemma. No line names a field of the session or of the answer.
 -- Assumes nothing.
@@ -44,22 +44,22 @@ use Rattle.session.specs.Session.{linkOf}
 use Rattle.session.specs.declared.Session.{Session}
 use Rattle.session.proofs.Session as T
 use Rattle.session.proofs.Session.Laws as T′
 use Rattle.gate.specs.Offer.{outcome, offerOf}
 use Rattle.gate.specs.declared.Answer.{Answer}
 use Rattle.gate.specs.declared.Offered.{Offered}
 use Rattle.gate.proofs.Answer as An
 use Rattle.gate.proofs.Answer.Laws as An′
 use Rattle.gate.proofs.Offered as O
 use Rattle.gate.proofs.Offered.Laws as O′
 use Rattle.gate.proofs.offer as core
 use Rattle.gate.proofs.offer.Symbol as core-def
 use Rattle.gate.proofs.offer.Symbol.{name as #gate·offer}
 use Rattle.gate.proofs.offer.Met as core-thm
-use Rattle.gate.proofs.InPlace.{Kind, Result, walk as inPlace}
-use Rattle.gate.proofs.offer_in_place.Key.{name as #gate·offer-in-place}
-use Rattle.gate.proofs.offer_in_place as entry
-use Rattle.gate.proofs.offer_in_place.Statement as stated
-use Rattle.gate.proofs.offer_in_place.Code as code
+use Rattle.entry.proofs.InPlace.{Kind, Result, walk as inPlace}
+use Rattle.entry.proofs.offer_in_place.Key.{name as #entry·offer-in-place}
+use Rattle.entry.proofs.offer_in_place as entry
+use Rattle.entry.proofs.offer_in_place.Statement as stated
+use Rattle.entry.proofs.offer_in_place.Code as code
 
 -- of the session's borrow the body still has the whole, of the hold's what says its last list, and of the side and of the piece it keeps nothing
 abbrev stayed : Stays (entry.ended .signature .params) (entry.ended .kept)
@@ -208,6 +208,6 @@ pub offer-in-place-spec : {M : Type 1} → stated.statement M
 unfolding code.routine tablesOf
 offer-in-place-spec 𝓤 H 𝓜 𝓖 𝓡 =
     entered 𝓤 H (tripleOf 𝓤 H (𝓖 .A) entry.signature (entry.spec 𝓤 H (𝓖 .A) (𝓜 .mem) (𝓡 .run)))
-    (tables 𝓤 H 𝓜 𝓡 code.env .C) (tables 𝓤 H 𝓜 𝓡 code.env .Λ) #gate·offer-in-place code.function (code.unfolded 𝓤 H 𝓜 𝓡)
+    (tables 𝓤 H 𝓜 𝓡 code.env .C) (tables 𝓤 H 𝓜 𝓡 code.env .Λ) #entry·offer-in-place code.function (code.unfolded 𝓤 H 𝓜 𝓡)
     (entry-meets 𝓤 H (𝓖 .A) (givenOf 𝓤 H 𝓜 𝓖) (𝓜 .mem) (𝓡 .run) (tablesOf 𝓤 H 𝓜 (tables 𝓤 H 𝓜 𝓡 code.env))
     (cited 𝓤 H (Core 𝓤 H (𝓖 .A) (𝓜 .mem) (𝓡 .run)) 𝓜 𝓡 code.env #gate·offer core-def.routine code.calls-gate·offer (core-thm.met 𝓤 H 𝓜 𝓖 𝓡)))
