@@ -71,7 +71,7 @@ fn data_of(handed: Handed) -> Data
     }
 }
 
-// Lays the record of a call, for which there has to be room.
+// Lays the record of a call. No entry: only the loops that make the calls of a script use it, and they count the records that fit first.
 pub fn put_record(out: &mut [u8], at: usize, a: Answer)
     requires { ⌜ at + 26 ≤ length (now out) ⌝ }
     ensures { λ _. ⌜ now (out .exit) ≡ sets (now (out .entry)) at (answerBytes a) ⌝ }
