@@ -6,7 +6,7 @@ use std::path::PathBuf;
 
 fn main() {
     println!("cargo:rerun-if-env-changed=DRIVE_DIR");
-    for name in ["drive", "drive_by_value"] {
+    for name in ["test_drive", "test_drive_by_value"] {
         tools::link(name, env::var_os("DRIVE_DIR").map(PathBuf::from));
     }
 }

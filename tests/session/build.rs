@@ -1,5 +1,5 @@
-//! Links the archive of the function `replay`.
+//! Links the archive of the function `test_replay`.
 
 fn main() {
-    tools::link("replay", None);
+    tools::link("test_replay", None);
 }

@@ -5,6 +5,6 @@ use std::env;
 fn main() {
     println!("cargo:rerun-if-changed=build.rs");
     if env::var_os("CARGO_FEATURE_SELF_TEST").is_none() {
-        tools::link("probe", None);
+        tools::link("test_probe", None);
     }
 }

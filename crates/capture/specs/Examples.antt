@@ -1,4 +1,4 @@
--- Lines decoded and formed, by computation: document 01's example, the borders of its rules, a bad line of each sort.
+-- Lines decoded and formed, by computation: document 01's example, the borders of its rules, a bad line of each sort and its flaw.
 -- Assumes nothing.
 use Prim.Native.Nat.{ℕ}
 use mathlib.Core.Path.{_≡_, refl}
@@ -8,6 +8,8 @@ use mathlib.Core.Option.{none, some}
 use lib.ListN.{replicate}
 use Rattle.header.specs.declared.Side.{Side}
 use Rattle.header.specs.declared.Side.the-variants.{Guest, Host}
+use Rattle.capture.specs.declared.Flaw.the-variants.{Nothing, Start, Long, Digit, Odd}
+use Rattle.capture.specs.Flaws.{flawOf, flawLine, errorLines}
 use Rattle.capture.specs.Lines.{ascii, startOf, startsWith, allHex, spelt, lineOf, digits, answerLine, totalsLine, badLine}
 
 -- ---- good lines
@@ -78,6 +80,20 @@ cut-short : IsBad (ascii "from=guest bytes")
 unfolding lineOf startsWith
 cut-short = refl
 
+-- ---- why they are bad: where a line has several flaws, the first of the start, the length, the digits, their count
+
+flaws : (flawOf [] ≡ Start)
+    × (flawOf (ascii " from=guest bytes=0") ≡ Start)
+    × (flawOf (startOf Guest ++ replicate 4097 103) ≡ Long)
+    × (flawOf (startOf Host ++ replicate 4096 103) ≡ Digit)
+    × (flawOf (ascii "from=guest bytes=07\r") ≡ Digit)
+    × (flawOf (ascii "from=guest bytes=0A0") ≡ Digit)
+    × (flawOf (ascii "from=host bytes=070") ≡ Odd)
+    × (flawOf (ascii "from=host bytes=") ≡ Nothing)
+    × (flawOf (startOf Guest ++ replicate 4096 48) ≡ Nothing)
+unfolding flawOf startsWith allHex
+flaws = (refl, refl, refl, refl, refl, refl, refl, refl, refl)
+
 -- ---- the report's lines
 
 -- document 01's example
@@ -99,3 +115,14 @@ largest-numbers = refl
 not-stopped : totalsLine 10 100 false ≡ ascii "passed=10 refused=100 stopped=0\n"
 unfolding totalsLine digits
 not-stopped = refl
+
+-- ---- standard error
+
+example-errors : errorLines 12 Odd true true
+    ≡ ascii "report: line 12: an odd count of digits\nreport: a read failed, and the input ends there\nreport: a write failed, and the output is not whole\n"
+unfolding errorLines flawLine digits
+example-errors = refl
+
+no-errors : errorLines 12 Nothing false false ≡ []
+unfolding errorLines flawLine
+no-errors = refl

@@ -1,3 +1,3 @@
 pub mod Lines
-pub mod Laws
+pub mod Flaws
 pub mod Examples

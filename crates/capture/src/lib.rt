@@ -1,18 +1,29 @@
-// The report program's lines: an input line decoded, and the lines that the report writes.
+// The report program's lines: an input line decoded, or why it can't be, and the lines that the report writes.
 ghost use mathlib.Core.Path.{_≡_};
 ghost use Prim.Native.Nat.{_+_, _*_, _<_, min};
-ghost use mathlib.Core.List.{_++_};
+ghost use mathlib.Core.Bool.{cond};
+ghost use mathlib.Core.List.{[], _++_};
 ghost use lib.Seq.{sets};
 ghost use Rattle.capture.specs.Lines.{startsWith, between, isHex, allHex, isSpelling, hexValue, spelt, pieceOf, lineOf, Decodes, decimal, sideField, answerLine, totalsLine, badLine, Forms, largest, Adds};
+ghost use Rattle.capture.specs.Flaws.{digitsFlaw, flawOf, badFor, flawLine, errorLines};
 use header::Side;
-use number::lay;
-use number::part;
-use number::put;
+use octets::lay;
+use octets::part;
+use octets::put;
 
 // What an input line offers: nothing, or a piece of so many bytes from a side.
 pub enum Line {
     Bad,
     Piece(Side, usize),
+}
+
+// Why a line can't be decoded: it starts otherwise; it has too many digits; one of them is none; or their count is odd. Nothing of a good line.
+pub enum Flaw {
+    Nothing,
+    Start,
+    Long,
+    Digit,
+    Odd,
 }
 
 fn starts_with(line: &[u8], prefix: &[u8]) -> bool
@@ -118,6 +129,35 @@ pub fn decode_line(line: &[u8], out: &mut [u8]) -> Line
     Line::Bad
 }
 
+// The flaw of what stands behind `bytes=`. That it is too long is told first, so that the rest of such a line need not be known.
+fn digits_flaw(s: &[u8]) -> Flaw
+    ensures { λ r. ⌜ r ≡ digitsFlaw (now (s .entry)) ⌝ }
+{
+    if 4096 < s.len() {
+        return Flaw::Long;
+    }
+    if !all_hex(s) {
+        return Flaw::Digit;
+    }
+    if s.len() % 2 == 0 {
+        return Flaw::Nothing;
+    }
+    Flaw::Odd
+}
+
+// The flaw of a line, without its newline.
+pub fn flaw_of(line: &[u8]) -> Flaw
+    ensures { λ r. ⌜ r ≡ flawOf (now (line .entry)) ⌝ }
+{
+    if starts_with(line, b"from=guest bytes=") {
+        return digits_flaw(part(line, 17, line.len()));
+    }
+    if starts_with(line, b"from=host bytes=") {
+        return digits_flaw(part(line, 16, line.len()));
+    }
+    Flaw::Start
+}
+
 // a + b, and the largest number where that is more.
 fn saturating_add(a: usize, b: usize) -> usize
     ensures { λ r. ⌜ r ≡ min (a + b) largest ⌝ }
@@ -206,4 +246,65 @@ pub fn form_bad(out: &mut [u8], at: usize) -> usize
 {
     lay(out, at, b"line=bad\n");
     9
+}
+
+// Adds a text, where it is to be said.
+fn add_where(out: &mut [u8], k: usize, said: bool, text: &[u8]) -> usize
+    ensures { λ r. ⌜ Adds (cond said (now (text .entry)) []) 0 k (now (out .entry)) r (now (out .exit)) ⌝ }
+{
+    if said {
+        return add_text(out, 0, k, text);
+    }
+    k
+}
+
+// Lays which line is bad, and the reason.
+fn lay_bad(out: &mut [u8], line: u64, reason: &[u8]) -> usize
+    ensures { λ r. ⌜ Adds (badFor line (now (reason .entry))) 0 0 (now (out .entry)) r (now (out .exit)) ⌝ }
+{
+    let a = add_field(out, 0, 0, b"report: line ", line);
+    let b = add_text(out, 0, a, b": ");
+    let c = add_text(out, 0, b, reason);
+    add_text(out, 0, c, b"\n")
+}
+
+// Lays which line has the flaw, where there is one.
+fn lay_flaw(out: &mut [u8], line: u64, flaw: Flaw) -> usize
+    ensures { λ r. ⌜ Adds (flawLine line flaw) 0 0 (now (out .entry)) r (now (out .exit)) ⌝ }
+{
+    match flaw {
+        Flaw::Nothing => 0,
+        Flaw::Start => lay_bad(
+            out,
+            line,
+            b"it starts with neither from=guest bytes= nor from=host bytes=",
+        ),
+        Flaw::Long => lay_bad(out, line, b"more than 4,096 digits"),
+        Flaw::Digit => lay_bad(
+            out,
+            line,
+            b"a byte behind bytes= that is no hex digit in lower case",
+        ),
+        Flaw::Odd => lay_bad(out, line, b"an odd count of digits"),
+    }
+}
+
+// Lays what the report says on standard error at the front of out, and tells how many bytes that are: the line that is bad and why, that a read
+// failed, and that a write failed; nothing where none of it is so.
+pub fn form_errors(out: &mut [u8], line: u64, flaw: Flaw, cut: bool, lost: bool) -> usize
+    ensures { λ r. ⌜ Forms (errorLines line flaw cut lost) 0 (now (out .entry)) r (now (out .exit)) ⌝ }
+{
+    let a = lay_flaw(out, line, flaw);
+    let b = add_where(
+        out,
+        a,
+        cut,
+        b"report: a read failed, and the input ends there\n",
+    );
+    add_where(
+        out,
+        b,
+        lost,
+        b"report: a write failed, and the output is not whole\n",
+    )
 }

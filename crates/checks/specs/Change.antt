@@ -7,15 +7,15 @@ use lib.Dec.{eqb}
 use Rattle.device.specs.declared.Head.{Head}
 use Rattle.device.specs.declared.Rows.{Rows}
 use Rattle.device.specs.declared.Scope.{Scope}
-use Rattle.device.specs.declared.Scope.the-variants.{Nowhere, Everywhere, OfInterface}
+use Rattle.device.specs.declared.Scope.the-variants.{NoRow, EveryRow, OfInterface}
 use Rattle.requests.specs.declared.Requests.{Requests}
-use Rattle.requests.specs.Requests.{Free, lowest}
+use Rattle.requests.specs.Requests.{places, Free, lowest}
 use Rattle.events.specs.Meaning.{Class, Hello, Connect, Interfaces, Endpoints, Disconnect, Reset, Ack, Cancel, Filter, StartRequest, PlainRequest, StreamStatus, PlainReply, StreamData}
 use Rattle.events.specs.Event.{Event}
 use Rattle.checks.specs.declared.Change.{Change}
 use Rattle.checks.specs.declared.Change.the-variants as changes
 use Rattle.checks.specs.declared.Ruling.{Ruling}
-use Rattle.checks.specs.declared.Ruling.the-variants.{Refused, Passed}
+use Rattle.checks.specs.declared.Ruling.the-variants.{Denied, Granted}
 use Rattle.checks.specs.Checks.{Match, Unmatched, Matched, matchOf, numberOf}
 
 -- "a status opens if it answers a start with 0 and otherwise closes"
@@ -26,18 +26,18 @@ opens e (Matched i q) = eqb (e .status) 0 && eqb (q .kind) (e .answers .first)
 -- "8 with status 0 to a 6 frees every data request .. and closes all streams. 11 with status 0 to a 9 does so for rows other than 0
 -- and 16 of that interface."
 abbrev pub scopeOf : Event → Match → Scope
-scopeOf e Unmatched = Nowhere
+scopeOf e Unmatched = NoRow
 scopeOf e (Matched i q) =
-    cond (eqb (e .status) 0) (cond (eqb (q .kind) 6) Everywhere (cond (eqb (q .kind) 9) (OfInterface (e .request .target)) Nowhere)) Nowhere
+    cond (eqb (e .status) 0) (cond (eqb (q .kind) 6) EveryRow (cond (eqb (q .kind) 9) (OfInterface (e .request .target)) NoRow)) NoRow
 
 -- a place of the table, 96 where there is none
 abbrev pub placeOr : Option ℕ → ℕ
-placeOr none = 96
+placeOr none = places
 placeOr (some i) = i
 
 -- the place of the request that a reply answers: "A passed reply frees the place"
 abbrev pub placeIn : Match → ℕ
-placeIn Unmatched = 96
+placeIn Unmatched = places
 placeIn (Matched i q) = i
 
 -- "take the lowest free place, with id, kind, endpoint or interface byte, and length"; "a passed start opens"
@@ -49,20 +49,20 @@ changeBy Endpoints t e m = changes.Endpoints
 changeBy Disconnect t e m = changes.Disconnect
 changeBy Reset t e m = changes.Reset
 changeBy Ack t e m = changes.Acknowledge
-changeBy Cancel t e m = changes.Nothing
-changeBy Filter t e m = changes.Nothing
-changeBy StartRequest t e m = changes.Start (placeOr (lowest t Free)) (e .request) (e .typed)
+changeBy Cancel t e m = changes.NoChange
+changeBy Filter t e m = changes.NoChange
+changeBy StartRequest t e m = changes.TakeAndOpen (placeOr (lowest t Free)) (e .request) (e .typed)
 changeBy PlainRequest t e m = changes.Take (placeOr (lowest t Free)) (e .request)
-changeBy StreamStatus t e m = changes.Answer (placeIn m) (e .typed) (opens e m) (scopeOf e m)
-changeBy PlainReply t e m = changes.Answer (placeIn m) (e .typed) (opens e m) (scopeOf e m)
-changeBy StreamData t e m = changes.Nothing
+changeBy StreamStatus t e m = changes.Release (placeIn m) (e .typed) (opens e m) (scopeOf e m)
+changeBy PlainReply t e m = changes.Release (placeIn m) (e .typed) (opens e m) (scopeOf e m)
+changeBy StreamData t e m = changes.NoChange
 
 abbrev pub changeFor : Requests → Event → Match → Change
 changeFor t e m = changeBy (e .class) t e m
 
 -- a packet is refused by its number, or passes with its change
 abbrev pub ruledBy : ℕ → Change → Ruling
-ruledBy n c = cond (eqb n 0) (Passed c) (Refused n)
+ruledBy n c = cond (eqb n 0) (Granted c) (Denied n)
 
 unfoldable pub rulingOf : Head → Rows → Requests → Event → Ruling
 rulingOf h rows t e = ruledBy (numberOf h rows t e) (changeFor t e (matchOf t e))

@@ -6,7 +6,7 @@ use mathlib.Core.List.{List, [], _∷_}
 use mathlib.Core.Option.{Option, none, some}
 use lib.Dec.{eqb, ltb}
 use Rattle.device.specs.declared.Introduction.{Introduction}
-use Rattle.device.specs.declared.Introduction.the-variants.{Nothing, One, Two}
+use Rattle.device.specs.declared.Introduction.the-variants.{Unintroduced, One, Two}
 use Rattle.device.specs.declared.Head.{Head}
 use Rattle.device.specs.declared.Rows.{Rows}
 use Rattle.device.specs.Device.{stateAt, maskMistyped}
@@ -87,12 +87,12 @@ ackOwed h e = traitsOf (e .class) .introduces && h .owed
 -- else 26. With a device, 1 gets 26; 4 and 5 pass." "24 clears it; when none is owed, 26."
 
 abbrev pub isBegun : Introduction → Bool
-isBegun Nothing = false
+isBegun Unintroduced = false
 isBegun One = true
 isBegun Two = true
 
 abbrev pub isDone : Introduction → Bool
-isDone Nothing = false
+isDone Unintroduced = false
 isDone One = false
 isDone Two = true
 

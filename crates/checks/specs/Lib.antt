@@ -1,4 +1,3 @@
 pub mod Checks
 pub mod Change
 pub mod Ruled
-pub mod Agree

@@ -9,44 +9,44 @@ use Rattle.endpoint.specs.declared.Endpoint.{Endpoint}
 use Rattle.device.specs.declared.Head.{Head}
 use Rattle.device.specs.declared.Rows.{Rows}
 use Rattle.device.specs.declared.Scope.{Scope}
-use Rattle.device.specs.declared.Scope.the-variants.{Nowhere, Everywhere, OfInterface}
+use Rattle.device.specs.declared.Scope.the-variants.{NoRow, EveryRow, OfInterface}
 use Rattle.device.specs.Device.{stateAt}
 use Rattle.requests.specs.declared.Request.{Request}
 use Rattle.requests.specs.declared.Slot.{Slot}
 use Rattle.requests.specs.declared.Requests.{Requests}
-use Rattle.requests.specs.Requests.{isSome, freeSlot, Free, Id, Settling, lowest}
+use Rattle.requests.specs.Requests.{places, isSome, freeSlot, Free, Id, Settling, lowest}
 use Rattle.events.specs.declared.Typed.{Typed}
 use Rattle.events.specs.declared.Reply.{Reply}
 use Rattle.events.specs.declared.Case.{Case}
 use Rattle.events.specs.declared.Case.the-variants as cases
 use Rattle.checks.specs.declared.Change.{Change}
-use Rattle.checks.specs.declared.Change.the-variants.{Nothing, Hello, Connect, Interfaces, Endpoints, Disconnect, Reset, Acknowledge, Take, Start, Answer}
+use Rattle.checks.specs.declared.Change.the-variants.{NoChange, Hello, Connect, Interfaces, Endpoints, Disconnect, Reset, Acknowledge, Take, TakeAndOpen, Release}
 use Rattle.checks.specs.declared.Expected.{Expected}
 use Rattle.checks.specs.declared.Ruling.{Ruling}
-use Rattle.checks.specs.declared.Ruling.the-variants.{Refused, Passed, Pending}
+use Rattle.checks.specs.declared.Ruling.the-variants.{Denied, Granted, Pending}
 use Rattle.checks.specs.Checks.{isBegun, isDone, mistypedBy}
 
 -- where there is a device
 abbrev pub withDevice : Head → Ruling → Ruling
-withDevice h r = cond (h .present) r (Refused 25)
+withDevice h r = cond (h .present) r (Denied 25)
 
 -- ---- a request
 
 abbrev pub taking : Request → Typed → Bool → Option ℕ → Ruling
-taking q typed starts none = Refused 32
-taking q typed starts (some i) = Passed (cond starts (Start i q typed) (Take i q))
+taking q typed starts none = Denied 32
+taking q typed starts (some i) = Granted (cond starts (TakeAndOpen i q typed) (Take i q))
 
 abbrev pub askedBy : Rows → Requests → Request → Typed → Bool → Bool → Ruling
 askedBy d t q typed starts transfer =
-    cond (mistypedBy d typed) (Refused 28)
-    (cond (transfer && isSome (lowest t Settling)) (Refused 29)
-    (cond (isSome (lowest t (Id (q .id)))) (Refused 31) (taking q typed starts (lowest t Free))))
+    cond (mistypedBy d typed) (Denied 28)
+    (cond (transfer && isSome (lowest t Settling)) (Denied 29)
+    (cond (isSome (lowest t (Id (q .id)))) (Denied 31) (taking q typed starts (lowest t Free))))
 
 -- ---- a reply
 
 -- no request is answered: only what may come unasked passes
 abbrev pub unmatched : Typed → Bool → Ruling
-unmatched typed unasked = cond unasked (Passed (Answer 96 typed false Nowhere)) (Refused 33)
+unmatched typed unasked = cond unasked (Granted (Release places typed false NoRow)) (Denied 33)
 
 -- a reply of a kind that may, with id 0 and status 4, comes unasked
 abbrev pub alone : Reply → Bool → Bool
@@ -54,7 +54,7 @@ alone r unasked = unasked && eqb (r .told .id) 0 && eqb (r .status) 4
 
 -- what else a reply to a request of this kind ends
 abbrev pub scopeTo : Reply → ℕ → Scope
-scopeTo r kind = cond (eqb (r .status) 0) (cond (eqb kind 6) Everywhere (cond (eqb kind 9) (OfInterface (r .told .target)) Nowhere)) Nowhere
+scopeTo r kind = cond (eqb (r .status) 0) (cond (eqb kind 6) EveryRow (cond (eqb kind 9) (OfInterface (r .told .target)) NoRow)) NoRow
 
 -- what the slot of its request has to have
 abbrev pub expected : Reply → Bool → Expected
@@ -72,19 +72,19 @@ repliedIn t r typed unasked (some i) =
 abbrev pub settledBy : ℕ → Expected → Typed → Bool → Scope → Slot → Ruling
 settledBy i x typed opens scope slot =
     cond (not (x .targeted) || eqb (slot .target) (x .target))
-    (cond (ltb (slot .length) (x .length)) (Refused 34) (Passed (Answer i typed opens scope)))
+    (cond (ltb (slot .length) (x .length)) (Denied 34) (Granted (Release i typed opens scope)))
     (unmatched typed (x .unasked))
 
 -- a ruling that waits for a slot
 abbrev pub settledIn : Ruling → Slot → Ruling
-settledIn (Refused n) slot = Refused n
-settledIn (Passed c) slot = Passed c
+settledIn (Denied n) slot = Denied n
+settledIn (Granted c) slot = Granted c
 settledIn (Pending i x typed opens scope) slot = settledBy i x typed opens scope slot
 
 -- the place whose slot it waits for, 96 where it waits for none
 abbrev pub awaited : Ruling → ℕ
-awaited (Refused n) = 96
-awaited (Passed c) = 96
+awaited (Denied n) = places
+awaited (Granted c) = places
 awaited (Pending i x typed opens scope) = i
 
 abbrev pub settled : Ruling → Requests → Ruling
@@ -95,21 +95,21 @@ settled r t = settledIn r (getD (t .slots) (awaited r) freeSlot)
 abbrev pub streamedBy : Rows → Requests → Endpoint → ℕ → Bool → Ruling
 streamedBy d t e ty transfer =
     cond (eqb (stateAt d e .ty) ty)
-    (cond (transfer && isSome (lowest t Settling)) (Refused 29) (cond (stateAt d e .streaming) (Passed Nothing) (Refused 30)))
-    (Refused 28)
+    (cond (transfer && isSome (lowest t Settling)) (Denied 29) (cond (stateAt d e .streaming) (Granted NoChange) (Denied 30)))
+    (Denied 28)
 
 -- ---- each case
 
 unfoldable pub ruled : Head → Rows → Requests → Case → Ruling
-ruled h d t (cases.Hello word) = Passed (Hello word)
-ruled h d t cases.Connect = cond (h .owed) (Refused 27) (cond (h .present || not (isDone (h .introduction))) (Refused 26) (Passed Connect))
-ruled h d t cases.Interfaces = cond (h .owed) (Refused 27) (cond (not (h .present) && not (isBegun (h .introduction))) (Refused 26) (Passed Interfaces))
-ruled h d t cases.Endpoints = cond (h .owed) (Refused 27) (Passed Endpoints)
-ruled h d t cases.Disconnect = withDevice h (Passed Disconnect)
-ruled h d t cases.Reset = withDevice h (Passed Reset)
-ruled h d t cases.Ack = cond (h .owed) (Passed Acknowledge) (Refused 26)
-ruled h d t cases.Cancel = withDevice h (Passed Nothing)
-ruled h d t cases.Filter = Passed Nothing
+ruled h d t (cases.Hello word) = Granted (Hello word)
+ruled h d t cases.Connect = cond (h .owed) (Denied 27) (cond (h .present || not (isDone (h .introduction))) (Denied 26) (Granted Connect))
+ruled h d t cases.Interfaces = cond (h .owed) (Denied 27) (cond (not (h .present) && not (isBegun (h .introduction))) (Denied 26) (Granted Interfaces))
+ruled h d t cases.Endpoints = cond (h .owed) (Denied 27) (Granted Endpoints)
+ruled h d t cases.Disconnect = withDevice h (Granted Disconnect)
+ruled h d t cases.Reset = withDevice h (Granted Reset)
+ruled h d t cases.Ack = cond (h .owed) (Granted Acknowledge) (Denied 26)
+ruled h d t cases.Cancel = withDevice h (Granted NoChange)
+ruled h d t cases.Filter = Granted NoChange
 ruled h d t (cases.Asks q typed starts transfer) = withDevice h (askedBy d t q typed starts transfer)
 ruled h d t (cases.Answers r typed unasked) = withDevice h (repliedIn t r typed unasked (lowest t (Id (r .told .id))))
 ruled h d t (cases.Streams e ty transfer) = withDevice h (streamedBy d t e ty transfer)

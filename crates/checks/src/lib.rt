@@ -5,7 +5,7 @@ ghost use Rattle.requests.specs.declared.Requests.{Requests};
 ghost use Rattle.requests.specs.Requests.{Id, lowest, Lent};
 ghost use Rattle.checks.specs.Checks.{isBegun, isDone, mistypedBy};
 ghost use Rattle.checks.specs.Ruled.{askedBy, unmatched, scopeTo, settledBy, settledIn, awaited, repliedIn, streamedBy, ruled};
-ghost use Rattle.checks.specs.declared.Ruling.the-variants.{Passed, Refused};
+ghost use Rattle.checks.specs.declared.Ruling.the-variants.{Granted, Denied};
 ghost use mathlib.Core.Bool.{cond};
 ghost use Rattle.events.specs.declared.Case.the-variants as cases;
 use device::Head;
@@ -18,7 +18,8 @@ use endpoint::Endpoint;
 use events::Case;
 use events::Reply;
 use events::Typed;
-use requests::Found;
+use requests::FoundPlace;
+use requests::PLACES;
 use requests::Request;
 use requests::Slot;
 use requests::find_free;
@@ -28,7 +29,7 @@ use requests::kind_at;
 
 // What a packet that passes does.
 pub enum Change {
-    Nothing,
+    NoChange,
     // a hello with its first capability word
     Hello(u32),
     Connect,
@@ -40,15 +41,15 @@ pub enum Change {
     // a request takes a place
     Take(usize, Request),
     // and opens the stream of its row
-    Start(usize, Request, Typed),
+    TakeAndOpen(usize, Request, Typed),
     // a reply frees a place, 96 for none; it opens or closes the stream of its row; the rows whose data requests and streams end with it
-    Answer(usize, Typed, bool, Scope),
+    Release(usize, Typed, bool, Scope),
 }
 
 pub enum Ruling {
-    Refused(u8),
-    Passed(Change),
-    // a reply whose request is at a place, the slot of which decides: what it has to have; then what the reply does, as in Answer
+    Denied(u8),
+    Granted(Change),
+    // a reply whose request is at a place, the slot of which decides: what it has to have; then what the reply does, as in Release
     Pending(usize, Expected, Typed, bool, Scope),
 }
 
@@ -65,7 +66,7 @@ fn is_begun(i: Introduction) -> bool
     ensures { λ r. ⌜ r ≡ isBegun i ⌝ }
 {
     match i {
-        Introduction::Nothing => false,
+        Introduction::Unintroduced => false,
         Introduction::One => true,
         Introduction::Two => true,
     }
@@ -75,7 +76,7 @@ fn is_done(i: Introduction) -> bool
     ensures { λ r. ⌜ r ≡ isDone i ⌝ }
 {
     match i {
-        Introduction::Nothing => false,
+        Introduction::Unintroduced => false,
         Introduction::One => false,
         Introduction::Two => true,
     }
@@ -97,35 +98,35 @@ fn rule_connect(h: Head) -> Ruling
     ensures { λ r. ⌜ ((d : Rows) (t : Requests) → r ≡ ruled h d t cases.Connect) ⌝ }
 {
     if h.owed {
-        return Ruling::Refused(27);
+        return Ruling::Denied(27);
     }
     let i = h.introduction;
     if h.present | !is_done(i) {
-        return Ruling::Refused(26);
+        return Ruling::Denied(26);
     }
-    Ruling::Passed(Change::Connect)
+    Ruling::Granted(Change::Connect)
 }
 
 fn rule_interfaces(h: Head) -> Ruling
     ensures { λ r. ⌜ ((d : Rows) (t : Requests) → r ≡ ruled h d t cases.Interfaces) ⌝ }
 {
     if h.owed {
-        return Ruling::Refused(27);
+        return Ruling::Denied(27);
     }
     let i = h.introduction;
     if !h.present & !is_begun(i) {
-        return Ruling::Refused(26);
+        return Ruling::Denied(26);
     }
-    Ruling::Passed(Change::Interfaces)
+    Ruling::Granted(Change::Interfaces)
 }
 
 // 28, 29, 31, 32
 fn rule_request<'a>(
     types: &'a [u8; 32],
     used: usize,
-    live: &'a [bool; 96],
-    kinds: &'a [u8; 96],
-    ids: &'a [u64; 96],
+    live: &'a [bool; PLACES],
+    kinds: &'a [u8; PLACES],
+    ids: &'a [u64; PLACES],
     q: Request,
     typed: Typed,
     starts: bool,
@@ -134,27 +135,27 @@ fn rule_request<'a>(
     ensures { λ r. ⌜ ((d : Rows) (t : Requests) → d .types ≡ now (types .entry) → Lent t used (now (live .entry)) (now (kinds .entry)) (now (ids .entry)) → r ≡ askedBy d t q typed starts transfer) ⌝ }
 {
     if is_mistyped(types, typed) {
-        return Ruling::Refused(28);
+        return Ruling::Denied(28);
     }
     if transfer {
         if is_settling(used, live, kinds) {
-            return Ruling::Refused(29);
+            return Ruling::Denied(29);
         }
     }
     let same = find_id(used, live, ids, q.id);
     match same {
-        Found::At(_) => Ruling::Refused(31),
-        Found::Nowhere => {
+        FoundPlace::AtPlace(_) => Ruling::Denied(31),
+        FoundPlace::NoPlace => {
             let f = find_free(used, live);
             match f {
-                Found::At(i) => {
+                FoundPlace::AtPlace(i) => {
                     if starts {
-                        Ruling::Passed(Change::Start(i, q, typed))
+                        Ruling::Granted(Change::TakeAndOpen(i, q, typed))
                     } else {
-                        Ruling::Passed(Change::Take(i, q))
+                        Ruling::Granted(Change::Take(i, q))
                     }
                 }
-                Found::Nowhere => Ruling::Refused(32),
+                FoundPlace::NoPlace => Ruling::Denied(32),
             }
         }
     }
@@ -165,9 +166,9 @@ fn rule_unmatched(typed: Typed, unasked: bool) -> Ruling
     ensures { λ r. ⌜ r ≡ unmatched typed unasked ⌝ }
 {
     if unasked {
-        return Ruling::Passed(Change::Answer(96, typed, false, Scope::Nowhere));
+        return Ruling::Granted(Change::Release(PLACES, typed, false, Scope::NoRow));
     }
-    Ruling::Refused(33)
+    Ruling::Denied(33)
 }
 
 // What else a reply to a request of this kind ends.
@@ -176,24 +177,24 @@ fn scope_to(r: Reply, kind: u8) -> Scope
 {
     let told = r.told;
     if r.status != 0 {
-        return Scope::Nowhere;
+        return Scope::NoRow;
     }
     if kind == 6 {
-        return Scope::Everywhere;
+        return Scope::EveryRow;
     }
     if kind == 9 {
         Scope::OfInterface(told.target)
     } else {
-        Scope::Nowhere
+        Scope::NoRow
     }
 }
 
 // A reply waits for the slot of the request with its id.
 fn rule_reply<'a>(
     used: usize,
-    live: &'a [bool; 96],
-    kinds: &'a [u8; 96],
-    ids: &'a [u64; 96],
+    live: &'a [bool; PLACES],
+    kinds: &'a [u8; PLACES],
+    ids: &'a [u64; PLACES],
     r: Reply,
     typed: Typed,
     unasked: bool,
@@ -205,7 +206,7 @@ fn rule_reply<'a>(
     let alone = unasked & (told.id == 0) & (r.status == 4);
     let f = find_id(used, live, ids, told.id);
     match f {
-        Found::At(i) => {
+        FoundPlace::AtPlace(i) => {
             let kind = kind_at(kinds, i);
             if (kind == a.first) | (kind == a.second) {
                 let x = Expected {
@@ -219,7 +220,7 @@ fn rule_reply<'a>(
             }
             rule_unmatched(typed, alone)
         }
-        Found::Nowhere => rule_unmatched(typed, alone),
+        FoundPlace::NoPlace => rule_unmatched(typed, alone),
     }
 }
 
@@ -238,9 +239,9 @@ fn settle_reply(
         return rule_unmatched(typed, x.unasked);
     }
     if slot.length < x.length {
-        return Ruling::Refused(34);
+        return Ruling::Denied(34);
     }
-    Ruling::Passed(Change::Answer(i, typed, opens, scope))
+    Ruling::Granted(Change::Release(i, typed, opens, scope))
 }
 
 // The place whose slot a ruling waits for, 96 where it waits for none.
@@ -248,19 +249,19 @@ pub fn awaited_place(u: Ruling) -> usize
     ensures { λ r. ⌜ r ≡ awaited u ⌝ }
 {
     match u {
-        Ruling::Refused(_) => 96,
-        Ruling::Passed(_) => 96,
+        Ruling::Denied(_) => PLACES,
+        Ruling::Granted(_) => PLACES,
         Ruling::Pending(i, _, _, _, _) => i,
     }
 }
 
 // A ruling with the slot that it waits for.
-pub fn settle(u: Ruling, slot: Slot) -> Ruling
+pub fn settle_ruling(u: Ruling, slot: Slot) -> Ruling
     ensures { λ r. ⌜ r ≡ settledIn u slot ⌝ }
 {
     match u {
-        Ruling::Refused(n) => Ruling::Refused(n),
-        Ruling::Passed(c) => Ruling::Passed(c),
+        Ruling::Denied(n) => Ruling::Denied(n),
+        Ruling::Granted(c) => Ruling::Granted(c),
         Ruling::Pending(i, x, typed, opens, scope) => settle_reply(i, x, typed, opens, scope, slot),
     }
 }
@@ -270,8 +271,8 @@ fn rule_stream<'a>(
     types: &'a [u8; 32],
     streams: &'a [bool; 32],
     used: usize,
-    live: &'a [bool; 96],
-    kinds: &'a [u8; 96],
+    live: &'a [bool; PLACES],
+    kinds: &'a [u8; PLACES],
     e: Endpoint,
     ty: u8,
     transfer: bool,
@@ -279,27 +280,27 @@ fn rule_stream<'a>(
     ensures { λ r. ⌜ ((d : Rows) (t : Requests) → d .types ≡ now (types .entry) → d .streams ≡ now (streams .entry) → t .used ≡ used → t .live ≡ now (live .entry) → t .kinds ≡ now (kinds .entry) → r ≡ streamedBy d t e ty transfer) ⌝ }
 {
     if type_at(types, e) != ty {
-        return Ruling::Refused(28);
+        return Ruling::Denied(28);
     }
     if transfer {
         if is_settling(used, live, kinds) {
-            return Ruling::Refused(29);
+            return Ruling::Denied(29);
         }
     }
     if is_streaming(streams, e) {
-        Ruling::Passed(Change::Nothing)
+        Ruling::Granted(Change::NoChange)
     } else {
-        Ruling::Refused(30)
+        Ruling::Denied(30)
     }
 }
 
-fn with_device(present: bool, c: Change) -> Ruling
-    ensures { λ r. ⌜ r ≡ cond present (Passed c) (Refused 25) ⌝ }
+fn needs_device(present: bool, c: Change) -> Ruling
+    ensures { λ r. ⌜ r ≡ cond present (Granted c) (Denied 25) ⌝ }
 {
     if present {
-        Ruling::Passed(c)
+        Ruling::Granted(c)
     } else {
-        Ruling::Refused(25)
+        Ruling::Denied(25)
     }
 }
 
@@ -309,54 +310,54 @@ pub fn rule<'a>(
     types: &'a [u8; 32],
     streams: &'a [bool; 32],
     used: usize,
-    live: &'a [bool; 96],
-    kinds: &'a [u8; 96],
-    ids: &'a [u64; 96],
+    live: &'a [bool; PLACES],
+    kinds: &'a [u8; PLACES],
+    ids: &'a [u64; PLACES],
     c: Case,
 ) -> Ruling
     ensures { λ r. ⌜ ((d : Rows) (t : Requests) → d .types ≡ now (types .entry) → d .streams ≡ now (streams .entry) → Lent t used (now (live .entry)) (now (kinds .entry)) (now (ids .entry)) → r ≡ ruled h d t c) ⌝ }
 {
     match c {
-        Case::Hello(word) => Ruling::Passed(Change::Hello(word)),
+        Case::Hello(word) => Ruling::Granted(Change::Hello(word)),
         Case::Connect => rule_connect(h),
         Case::Interfaces => rule_interfaces(h),
         Case::Endpoints => {
             if h.owed {
-                Ruling::Refused(27)
+                Ruling::Denied(27)
             } else {
-                Ruling::Passed(Change::Endpoints)
+                Ruling::Granted(Change::Endpoints)
             }
         }
-        Case::Disconnect => with_device(h.present, Change::Disconnect),
-        Case::Reset => with_device(h.present, Change::Reset),
+        Case::Disconnect => needs_device(h.present, Change::Disconnect),
+        Case::Reset => needs_device(h.present, Change::Reset),
         Case::Ack => {
             if h.owed {
-                Ruling::Passed(Change::Acknowledge)
+                Ruling::Granted(Change::Acknowledge)
             } else {
-                Ruling::Refused(26)
+                Ruling::Denied(26)
             }
         }
-        Case::Cancel => with_device(h.present, Change::Nothing),
-        Case::Filter => Ruling::Passed(Change::Nothing),
+        Case::Cancel => needs_device(h.present, Change::NoChange),
+        Case::Filter => Ruling::Granted(Change::NoChange),
         Case::Asks(q, typed, starts, transfer) => {
             if h.present {
                 rule_request(types, used, live, kinds, ids, q, typed, starts, transfer)
             } else {
-                Ruling::Refused(25)
+                Ruling::Denied(25)
             }
         }
         Case::Answers(r, typed, unasked) => {
             if h.present {
                 rule_reply(used, live, kinds, ids, r, typed, unasked)
             } else {
-                Ruling::Refused(25)
+                Ruling::Denied(25)
             }
         }
         Case::Streams(e, ty, transfer) => {
             if h.present {
                 rule_stream(types, streams, used, live, kinds, e, ty, transfer)
             } else {
-                Ruling::Refused(25)
+                Ruling::Denied(25)
             }
         }
     }

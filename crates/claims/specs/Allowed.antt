@@ -1,27 +1,30 @@
 -- When a packet passes the session checks: in relations over the session and what the packet says, by kind numbers and in the words of
--- document 01. It does not go by the classes of `events` nor run the checks; `Passes` shows that the judge passes a packet exactly then.
--- Assumes nothing: these are definitions.
+-- document 01. It does not go by the classes of `events` nor run the checks; `AllowedExactly` says that the judge passes a packet exactly then.
+-- Assumes nothing: these are definitions and a statement.
 use Prim.Native.Nat.{ℕ, _≤_, _<_}
 use mathlib.Core.Bool.{Bool, true, false, cond, not, _&&_, _||_}
 use mathlib.Core.List.{List, [], _∷_}
-use mathlib.Core.Logic.{_⊎_}
 use mathlib.Core.Option.{Option, none, some}
 use mathlib.Core.Path.{_≡_}
+use mathlib.Core.Logic.{_⊎_, _↔_}
 use lib.Dec.{eqb}
-use Rattle.number.specs.Bits.{hasBit}
+use Rattle.octets.specs.Bits.{hasBit}
 use Rattle.endpoint.specs.declared.Endpoint.{Endpoint}
 use Rattle.endpoint.specs.Endpoint.{isIn}
 use Rattle.header.specs.declared.Side.{Side}
-use Rattle.kinds.specs.Content.{Content}
-use Rattle.kinds.specs.Codec.{layout}
-use Rattle.kinds.specs.Number.{isGuest, dataLength}
-use Rattle.device.specs.declared.Introduction.the-variants.{Nothing, Two}
-use Rattle.device.specs.Device.{control, iso, bulk, interrupt, rowAt, stateAt}
+use Rattle.device.specs.Device.{bulk, control, iso, interrupt, rowAt, stateAt}
+use Rattle.device.specs.declared.Introduction.the-variants.{Unintroduced, Two}
 use Rattle.requests.specs.declared.Request.{Request}
 use Rattle.requests.specs.declared.Requests.{Requests}
-use Rattle.requests.specs.Requests.{placeAt}
-use Rattle.events.specs.Event.{field}
+use Rattle.requests.specs.Requests.{placeAt, idsDiffer}
+use Rattle.header.specs.Link.{isGuest}
+use Rattle.kinds.specs.Content.{Content}
+use Rattle.kinds.specs.Codec.{layout}
+use Rattle.kinds.specs.Number.{dataLength, wireNumber}
+use Rattle.events.specs.Event.{field, eventOf}
 use Rattle.session.specs.declared.Session.{Session}
+use Rattle.session.specs.Session.{linkOf}
+use Rattle.session.specs.Step.{judged}
 
 -- ---- kinds, by their numbers
 
@@ -69,8 +72,8 @@ wants from kind inward =
     (cond (isGuest from && eqb kind 100) (some control) none)))
 
 -- 30: "kind 102, host 103 IN and 104"
-abbrev pub onStream : Side → ℕ → Bool → Bool
-onStream from kind inward = among (102 ∷ 104 ∷ []) kind || hostInterrupt from kind inward
+abbrev pub comesOnStream : Side → ℕ → Bool → Bool
+comesOnStream from kind inward = among (102 ∷ 104 ∷ []) kind || hostInterrupt from kind inward
 
 -- ---- what a packet names
 
@@ -122,7 +125,7 @@ pub record Allowed (s : Session) (from : Side) (p : Content) : Type 0 where
   pub ack : among (1 ∷ 4 ∷ 5 ∷ []) (p .kind) ≡ true → s .head .owed ≡ false
   -- 26: "1 needs two .. With a device, 1 gets 26"; "4 needs one or two"; "24 clears it; when none is owed, 26"
   pub connect : p .kind ≡ 1 → (s .head .present ≡ false) × (s .head .introduction ≡ Two)
-  pub interfaces : p .kind ≡ 4 → s .head .present ≡ false → s .head .introduction ≡ Nothing → ⊥
+  pub interfaces : p .kind ≡ 4 → s .head .present ≡ false → s .head .introduction ≡ Unintroduced → ⊥
   pub acknowledgement : p .kind ≡ 24 → s .head .owed ≡ true
   -- 28: the row of its endpoint has the type that it wants; "18, 19 (every mask bit)" bulk
   pub type : (ty : ℕ) → wants from (p .kind) (inwardOf p) ≡ some ty → stateAt (s .rows) (endpointNamed p) .ty ≡ ty
@@ -130,9 +133,16 @@ pub record Allowed (s : Session) (from : Side) (p : Content) : Type 0 where
   -- 29: "guest kinds 100 to 103 while a kind 6 or 9 waits"
   pub settled : isGuest from ≡ true → 100 ≤ p .kind → p .kind ≤ 103 → (i : ℕ) → i < 96 → placeAt (s .requests) i .live ≡ true → oneOf 6 9 (placeAt (s .requests) i .request .kind) ≡ false
   -- 30: "kind 102, host 103 IN and 104 on a closed stream"
-  pub stream : onStream from (p .kind) (inwardOf p) ≡ true → stateAt (s .rows) (endpointNamed p) .streaming ≡ true
+  pub stream : comesOnStream from (p .kind) (inwardOf p) ≡ true → stateAt (s .rows) (endpointNamed p) .streaming ≡ true
   -- 31, 32: "31 if any live request has that id, else 32 if full"
   pub unused : isRequest from (p .kind) ≡ true → (i : ℕ) → i < 96 → placeAt (s .requests) i .live ≡ true → placeAt (s .requests) i .request .id ≡ p .id → ⊥
   pub room : isRequest from (p .kind) ≡ true → (i : ℕ) × (i < 96) × (placeAt (s .requests) i .live ≡ false)
   -- 33, 34: an outstanding request that it answers, and its length is not over that request's; or it is unsolicited
   pub reply : isReply from (p .kind) (inwardOf p) ≡ true → ((i : ℕ) × AnsweredBy (s .requests) p i × (countOf p ≤ placeAt (s .requests) i .request .length)) ⊎ Unsolicited (s .requests) p
+
+-- demand 2 for the session checks: of a packet that came out of the wire checks, to a session whose live requests have different ids (43 refuses
+-- others), they give 0 exactly when it is allowed
+abbrev pub AllowedExactly : Type 0
+AllowedExactly =
+    (s : Session) (from : Side) (p : Content) → wireNumber (linkOf from s) p ≡ 0 → idsDiffer (s .requests) ≡ true
+    → (judged s (eventOf from p) .number ≡ 0) ↔ Allowed s from p

@@ -1,54 +1,43 @@
--- A packet out of the wire checks passes exactly when it is allowed (`allowed-exactly`). A request that passes takes the lowest free place
--- (`request-keeps`). With a device, a reply passes exactly when a live request matches it and asked for at least its length, or it is unsolicited
--- (`reply-passes`); it consumes that one request (`reply-consumes`), and none with its id waits then (`answered-absent`); where none waits, it is
--- refused, if not unsolicited, and frees nothing (`late`). `agrees` takes the laws of `Steps.antt` and `Passes.antt`, which speak of events, to
--- kind numbers; what ends with a 9 is of its interface, since only an 11 answers it, and names that (`same-interface`).
--- Assumes nothing.
+-- What is said of requests and replies: a request that passes takes the lowest free place (`RequestKeeps`). With a device, a reply passes exactly
+-- when a live request matches it and asked for at least its length, or it is unsolicited (`ReplyPasses`); it consumes that one request
+-- (`ReplyConsumes`), and none with its id waits then (`AnsweredAbsent`); where none waits, it is refused, if not unsolicited, and frees nothing (`Late`).
+-- Assumes nothing: these are definitions and statements.
 use Prim.Native.Nat.{ℕ, _≤_, _<_}
-use mathlib.Core.Bool.{Bool, true, false, cond, not, _&&_, _||_, or-true, false≢true}
-use mathlib.Core.List.{List, [], _∷_}
-use mathlib.Core.Logic.{_↔_, _⊎_, inl, inr}
-use mathlib.Core.Option.{Option, none, some}
-use mathlib.Core.Path.{_≡_, refl, sym, ap, subst, _∙_}
-use lib.Dec.{eqb, leb}
-use borrow.Author.Tests.{eqb-true, eq-eqb}
-use borrow.Table.Steps.{cases}
-use Rattle.number.specs.Logic.{and-parts, and-whole, failing, or-none, false-not}
-use Rattle.endpoint.specs.declared.Endpoint.{Endpoint}
+use mathlib.Core.Bool.{true, false}
+use mathlib.Core.List.{List}
+use mathlib.Core.Path.{_≡_}
+use mathlib.Core.Logic.{_⊎_, _↔_}
 use Rattle.header.specs.declared.Side.{Side}
-use Rattle.header.specs.declared.Side.the-variants.{Guest, Host}
-use Rattle.kinds.specs.Content.{Value, Content}
-use Rattle.kinds.specs.Number.{isGuest, wireNumber}
-use Rattle.device.specs.declared.Scope.{Scope}
-use Rattle.device.specs.declared.Scope.the-variants.{OfInterface}
+use Rattle.header.specs.declared.Side.the-variants.{Guest}
 use Rattle.device.specs.Device.{touched}
-use Rattle.requests.specs.declared.Request.{Request}
-use Rattle.requests.specs.Requests.{isSome, Query, Free, Id, Settling, Answered, freePlace, taken, isData, answers, lowest, placeAt, ends, idsDiffer}
-use Rattle.requests.specs.Laws.{differ-when, live-within}
+use Rattle.device.specs.declared.Scope.the-variants.{OfInterface}
+use Rattle.requests.specs.declared.Requests.{Requests}
+use Rattle.requests.specs.Requests.{placeAt, freePlace, taken, isData, idsDiffer}
 use Rattle.requests.specs.Clean.{Zeroed}
-use Rattle.kinds.specs.RoundTrip.{clean}
-use Rattle.events.specs.Meaning.{meanings, lookUp}
-use Rattle.events.specs.Event.{Event, field, meaningOf, targetOf, eventOf}
-use Rattle.checks.specs.Checks.{Matched, traitsOf, mistypedBy, isOpen, matchIn, matchOf, isUnsolicited, noSuchRequest, numberFor, numberOf}
+use Rattle.kinds.specs.Content.{Value, Content}
+use Rattle.kinds.specs.Number.{wireNumber}
+use Rattle.events.specs.Event.{Event, field, eventOf}
 use Rattle.session.specs.declared.Session.{Session}
 use Rattle.session.specs.Session.{linkOf}
-use Rattle.checks.specs.Change.{scopeOf}
-use Rattle.session.specs.Step.{applied, nextFor, judged}
-use Rattle.claims.specs.Allowed.{among, oneOf, isRequest, isReply, answersKind, carriesTarget, inwardOf, countOf, requestOf, AnsweredBy, Unsolicited, Allowed}
-use Rattle.claims.specs.Agree.{factsOf, factsBy, agrees}
-use Rattle.claims.specs.Passes.{holds-none, passes, answers-to, match-is, alone-to, reply-from, unsolicited-is}
-use Rattle.claims.specs.Steps.{number-is, request-takes, from-host, reply-does, none-held, Freed, reply-frees, unmatched-keeps, NoLive, answered-once, late-reply}
+use Rattle.session.specs.Step.{judged}
+use Rattle.claims.specs.Allowed.{isRequest, isReply, inwardOf, countOf, requestOf, AnsweredBy, Unsolicited}
 
 -- ---- what is said of a request
 
 -- it takes the lowest free place, and no other place changes
-pub record Takes (s : Session) (p : Content) (next : Session) : Type 0 where
+pub record TakesPlace (s : Session) (p : Content) (next : Session) : Type 0 where
   pub place : ℕ
   pub within : place < 96
   pub free : placeAt (s .requests) place .live ≡ false
   pub lower : (j : ℕ) → j < place → placeAt (s .requests) j .live ≡ true
   pub holds : placeAt (next .requests) place ≡ taken (requestOf p)
   pub others : (j : ℕ) → (j ≡ place → ⊥) → placeAt (next .requests) j ≡ placeAt (s .requests) j
+
+-- of a packet that came out of the wire checks
+abbrev pub RequestKeeps : Type 0
+RequestKeeps =
+    (s : Session) (from : Side) (p : Content) → wireNumber (linkOf from s) p ≡ 0
+    → isRequest from (p .kind) ≡ true → judged s (eventOf from p) .number ≡ 0 → TakesPlace s p (judged s (eventOf from p) .session)
 
 -- ---- what is said of a reply
 
@@ -78,218 +67,56 @@ pub record Consumes (s : Session) (p : Content) (next : Session) (i : ℕ) : Typ
   pub zeroed : Zeroed (next .requests) i
   pub ended-zeroed : (j : ℕ) → EndsWith s p i j → Zeroed (next .requests) j
 
+-- with a device, of a reply no check asks but 33 and 34
+abbrev pub ReplyPasses : Type 0
+ReplyPasses =
+    (s : Session) (from : Side) (p : Content) → wireNumber (linkOf from s) p ≡ 0 → isReply from (p .kind) (inwardOf p) ≡ true
+    → idsDiffer (s .requests) ≡ true → s .head .present ≡ true
+    → (judged s (eventOf from p) .number ≡ 0) ↔ (((i : ℕ) × AnsweredBy (s .requests) p i × (countOf p ≤ placeAt (s .requests) i .request .length)) ⊎ Unsolicited (s .requests) p)
+
+-- a reply that passes is handed to the one request that it answers, or it is unsolicited and handed to none
+abbrev pub ReplyConsumes : Type 0
+ReplyConsumes =
+    (s : Session) (from : Side) (p : Content) → wireNumber (linkOf from s) p ≡ 0 → isReply from (p .kind) (inwardOf p) ≡ true
+    → idsDiffer (s .requests) ≡ true → judged s (eventOf from p) .number ≡ 0
+    → ((i : ℕ) × Consumes s p (judged s (eventOf from p) .session) i) ⊎ (Unsolicited (s .requests) p × (judged s (eventOf from p) .session .requests ≡ s .requests))
+
+-- ---- no request waits under an id
+
+-- no live request has this id
+abbrev pub NoLive : Requests → ℕ → Type 0
+NoLive t n = (j : ℕ) → j < 96 → placeAt t j .live ≡ true → placeAt t j .request .id ≡ n → ⊥
+
+-- the session after a packet
+abbrev pub afterEvent : Session → Event → Session
+afterEvent s e = judged s e .session
+
+-- once a reply has been handed to a request, no request with its id waits
+abbrev pub AnsweredAbsent : Type 0
+AnsweredAbsent =
+    (s : Session) (from : Side) (p : Content) → wireNumber (linkOf from s) p ≡ 0 → isReply from (p .kind) (inwardOf p) ≡ true
+    → idsDiffer (s .requests) ≡ true → judged s (eventOf from p) .number ≡ 0 → (Unsolicited (s .requests) p → ⊥)
+    → NoLive (judged s (eventOf from p) .session .requests) (p .id)
+
+-- whatever ended the one request that waited under an id, none waits under it then
+abbrev pub EndedAbsent : Type 0
+EndedAbsent =
+    (s : Session) (e : Event) (i : ℕ) → idsDiffer (s .requests) ≡ true → placeAt (s .requests) i .live ≡ true → placeAt (afterEvent s e .requests) i .live ≡ false → NoLive (afterEvent s e .requests) (placeAt (s .requests) i .request .id)
+
 -- a reply to a session in which no request with its id waits
 pub record LateReply (s : Session) (from : Side) (p : Content) : Type 0 where
   pub without-device : s .head .present ≡ false → judged s (eventOf from p) .number ≡ 25
   pub refused : s .head .present ≡ true → (Unsolicited (s .requests) p → ⊥) → judged s (eventOf from p) .number ≡ 33
   pub kept : judged s (eventOf from p) .session .requests ≡ s .requests
 
--- ---- a reply to a set alt is an 11, and its interface is that of its request
+-- where no request with its id waits, a reply is refused, but for an unsolicited status, and it frees nothing
+abbrev pub Late : Type 0
+Late =
+    (s : Session) (from : Side) (p : Content) → wireNumber (linkOf from s) p ≡ 0 → isReply from (p .kind) (inwardOf p) ≡ true
+    → NoLive (s .requests) (p .id) → LateReply s from p
 
-either : (kind n : ℕ) (a b : ℕ → Bool) → cond (eqb kind n) a b 9 ≡ true → a 9 ≡ false → (eqb kind n ≡ false) × (b 9 ≡ true)
-either kind n a b h f = cases (eqb kind n) (λ e. absurd (false≢true (sym f ∙ (rw e at h)))) (λ e. (e, rw e at h))
-
--- of the kinds that answer a 9, in the order in which they are asked: no other than 11 does, but the 9 itself, which is no reply
-alt-reply : (from : Side) (kind : ℕ) (inward : Bool) → isReply from kind inward ≡ true → answersKind kind 9 ≡ true → kind ≡ 11
-alt-reply from kind inward r h =
-    cases (eqb kind 11) (λ e. eqb-true kind 11 e) (λ e. absurd (other e))
-  where
-    own : (from : Side) → isReply from 9 inward ≡ true → ⊥
-    own Guest x = false≢true x
-    own Host x = false≢true x
-
-    other : eqb kind 11 ≡ false → ⊥
-    other e =
-        let a = either kind 8 (oneOf 6 7) _ h refl in
-        let b : cond (eqb kind 14) (oneOf 12 13) (cond (eqb kind 17) (oneOf 15 16) (cond (eqb kind 20) (oneOf 18 19) (cond (eqb kind 27) (oneOf 25 26) (oneOf kind kind)))) 9 ≡ true = rw e at (a .1) in
-        let c = either kind 14 (oneOf 12 13) _ b refl in
-        let d = either kind 17 (oneOf 15 16) _ (c .1) refl in
-        let f = either kind 20 (oneOf 18 19) _ (d .1) refl in
-        let g = either kind 27 (oneOf 25 26) _ (f .1) refl in
-        let k : 9 ≡ kind = cases (eqb 9 kind) (λ x. eqb-true 9 kind x) (λ x. absurd (false≢true (sym (or-none (eqb 9 kind) (eqb 9 kind) x x) ∙ g .1))) in
-        own from (subst (λ (n : ℕ). isReply from n inward ≡ true) (sym k) r)
-
--- the endpoint or interface of an 11 is its interface
-alt-target : (from : Side) (p : Content) → p .kind ≡ 11 → eventOf from p .request .target ≡ field "interface" p
-unfolding eventOf meaningOf meanings
-alt-target from p k = ap (λ (n : ℕ). targetOf (lookUp meanings from n (inwardOf p) .about) p) k
-
--- ---- of a packet that came out of the wire checks, to a session whose live requests have different ids
-
-module _ (s : Session) (from : Side) (p : Content) (w : wireNumber (linkOf from s) p ≡ 0) where
-  abbrev e : Event
-  e = eventOf from p
-
-  agreed : factsOf e ≡ factsBy from p
-  agreed = let c = clean (linkOf from s) p w in agrees from p (c .kind) (c .found) (c .sender)
-
-  -- demand 2 for the session checks
-  pub allowed-exactly : idsDiffer (s .requests) ≡ true → (judged s e .number ≡ 0) ↔ Allowed s from p
-  allowed-exactly u =
-      let c = clean (linkOf from s) p w in
-      let i = passes s from p (c .kind) (c .found) (c .sender) u in
-      (λ z. i .0 (sym (number-is s e) ∙ z), λ a. number-is s e ∙ i .1 a)
-
-  pub request-keeps : isRequest from (p .kind) ≡ true → judged s e .number ≡ 0 → Takes s p (judged s e .session)
-  request-keeps h z =
-      let r : traitsOf (e .class) .request ≡ true = (λ i. agreed i .request) ∙ h in
-      let k : e .request ≡ requestOf p = sym (rw r) ∙ (λ i. agreed i .kept) ∙ rw h in
-      let t = request-takes s e r z in
-      record { place = t .place; within = t .within; free = t .free; lower = t .lower; holds = t .holds ∙ ap taken k; others = t .others }
-
-  module _ (r : isReply from (p .kind) (inwardOf p) ≡ true) where
-    replying : traitsOf (e .class) .reply ≡ true
-    replying = (λ i. agreed i .reply) ∙ r
-
-    from-a-host : isGuest (e .sender) ≡ false
-    from-a-host = from-host (linkOf from s) p w replying
-
-    -- of a reply no check asks but 25, 33 and 34
-    pub reply-passes : idsDiffer (s .requests) ≡ true → s .head .present ≡ true
-        → (judged s e .number ≡ 0) ↔ (((i : ℕ) × AnsweredBy (s .requests) p i × (countOf p ≤ placeAt (s .requests) i .request .length)) ⊎ Unsolicited (s .requests) p)
-    unfolding numberOf
-    reply-passes u h = (λ z. allowed-exactly u .0 z .reply r, zero-number)
-      where
-        -- 33 and 34 do not hold by what is given, and with a device there the others ask nothing of a host's reply
-        zero-number : ((i : ℕ) × AnsweredBy (s .requests) p i × (countOf p ≤ placeAt (s .requests) i .request .length)) ⊎ Unsolicited (s .requests) p → judged s e .number ≡ 0
-        zero-number x =
-            let f = reply-from s from p agreed u (λ k. x) in
-            let c = reply-does (e .class) replying in
-            let d = c .2 (s .head) in
-            number-is s e
-            ∙ holds-none (s .head) (s .rows) (s .requests) e (matchOf (s .requests) e)
-            (record {
-              device = failing (traitsOf (e .class) .device) (not (s .head .present)) (λ k. false-not (s .head .present) h);
-              ack = ap (λ (b : Bool). b && s .head .owed) (d .1);
-              order = d .2;
-              type = ap (λ (b : Bool). b && mistypedBy (s .rows) (e .typed)) (d .3);
-              settled = ap (λ (b : Bool). b && leb 100 (e .request .kind) && leb (e .request .kind) 103 && isSome (lowest (s .requests) Settling)) from-a-host;
-              stream = ap (λ (b : Bool). b && not (isOpen (s .rows) (e .typed))) (d .4);
-              unused = ap (λ (b : Bool). b && isSome (lowest (s .requests) (Id (e .request .id)))) (c .0);
-              room = ap (λ (b : Bool). b && not (isSome (lowest (s .requests) Free))) (c .0);
-              matched = f .0;
-              short = f .1;
-            })
-
-    -- a reply to a set alt names the interface of its request
-    same-interface : (i : ℕ) → AnsweredBy (s .requests) p i → placeAt (s .requests) i .request .kind ≡ 9 → placeAt (s .requests) i .request .target ≡ e .request .target
-    same-interface i a nine =
-        let eleven : p .kind ≡ 11 = alt-reply from (p .kind) (inwardOf p) r (sym (ap (answersKind (p .kind)) nine) ∙ a .kind) in
-        a .target (ap carriesTarget eleven) ∙ ap (λ (n : ℕ). cond (eqb n 11) (field "interface" p) (field "endpoint" p)) eleven ∙ sym (alt-target from p eleven)
-
-    module _ (i : ℕ) (a : AnsweredBy (s .requests) p i) (j : ℕ) where
-      abbrev q : Request
-      q = placeAt (s .requests) i .request
-
-      abbrev target : Endpoint
-      target = record { 0 = placeAt (s .requests) j .request .target }
-
-      abbrev scope : Scope
-      scope = scopeOf e (Matched i q)
-
-      -- the data requests that end with it are those that document 01 names
-      ends-too : ends (s .rows) scope (placeAt (s .requests) j) ≡ true → EndsWith s p i j
-      unfolding touched eventOf
-      ends-too h =
-          let x = and-parts _ (touched (s .rows) scope target) h in
-          let y = and-parts (placeAt (s .requests) j .live) _ (x .0) in
-          cases (eqb (e .status) 0)
-          (λ z. record { live = y .0; kind = y .1; status = eqb-true (e .status) 0 z; scope = by-kind z (x .1) })
-          (λ z. absurd (false≢true (rw z at (x .1))))
-        where
-          by-kind : eqb (e .status) 0 ≡ true → touched (s .rows) scope target ≡ true → (q .kind ≡ 6) ⊎ ((q .kind ≡ 9) × (touched (s .rows) (OfInterface (q .target)) target ≡ true))
-          by-kind z t =
-              cases (eqb (q .kind) 6)
-              (λ x. inl (eqb-true (q .kind) 6 x))
-              (λ x.
-              cases (eqb (q .kind) 9)
-              (λ y.
-              let nine = eqb-true (q .kind) 9 y in
-              inr (nine, ap (λ (n : ℕ). touched (s .rows) (OfInterface n) target) (same-interface i a nine) ∙ (rw (z, x, y) at t)))
-              (λ y. absurd (false≢true (rw (z, x, y) at t))))
-
-      too-ends : EndsWith s p i j → ends (s .rows) scope (placeAt (s .requests) j) ≡ true
-      unfolding touched eventOf
-      too-ends x = and-whole _ (touched (s .rows) scope target) (and-whole (placeAt (s .requests) j .live) _ (x .live) (x .kind)) (by-kind (x .scope))
-        where
-          zero-status : eqb (e .status) 0 ≡ true
-          zero-status = eq-eqb (e .status) 0 (x .status)
-
-          by-kind : (q .kind ≡ 6) ⊎ ((q .kind ≡ 9) × (touched (s .rows) (OfInterface (q .target)) target ≡ true)) → touched (s .rows) scope target ≡ true
-          by-kind (inl six) = rw (zero-status, eq-eqb (q .kind) 6 six)
-          by-kind (inr (nine, t)) =
-              rw (zero-status, ap (λ (n : ℕ). eqb n 6) nine, eq-eqb (q .kind) 9 nine)
-              (sym (ap (λ (n : ℕ). touched (s .rows) (OfInterface n) target) (same-interface i a nine)) ∙ t)
-
-    abbrev query : Query
-    query = Answered (e .request) (e .answers)
-
-    match-at : (o : Option ℕ) → lowest (s .requests) query ≡ o → matchOf (s .requests) e ≡ matchIn (s .requests) o
-    match-at o x = match-is s from p agreed r ∙ ap (matchIn (s .requests)) x
-
-    -- a reply that passes is handed to the one request that it answers, or it is unsolicited and handed to none
-    pub reply-consumes : idsDiffer (s .requests) ≡ true → judged s e .number ≡ 0
-        → ((i : ℕ) × Consumes s p (judged s e .session) i) ⊎ (Unsolicited (s .requests) p × (judged s e .session .requests ≡ s .requests))
-    unfolding eventOf
-    reply-consumes u z = go (lowest (s .requests) query) refl
-      where
-        -- the request at the place that was found is the one; no other has its id, and what ends with it is as document 01 says
-        handed : (i : ℕ) → Freed s e i (placeAt (s .requests) i .request) → Consumes s p (judged s e .session) i
-        handed i f =
-            let a = answers-to s from p agreed r i (f .within) (and-whole (placeAt (s .requests) i .live) _ (f .live) (f .answered)) in
-            record {
-              answers = a;
-              short = f .short;
-              only = λ j l v n. differ-when (s .requests) u j i v (f .live) (n ∙ sym (a .id));
-              freed = f .freed;
-              others = λ j n.
-                  cases (ends (s .rows) (scopeOf e (Matched i (placeAt (s .requests) i .request))) (placeAt (s .requests) j))
-                  (λ x. inr (ends-too i a j x, f .others j n ∙ rw x))
-                  (λ x. inl (f .others j n ∙ rw x));
-              ended = λ j n x. f .others j n ∙ rw (too-ends i a j x);
-              zeroed = f .zeroed i (f .within) (rw (eq-eqb i i refl));
-              ended-zeroed = λ j x. f .zeroed j (live-within (s .requests) j (x .live)) (ap (λ (b : Bool). eqb j i || b) (too-ends i a j x) ∙ or-true (eqb j i));
-            }
-
-        go : (o : Option ℕ) → lowest (s .requests) query ≡ o → ((i : ℕ) × Consumes s p (judged s e .session) i) ⊎ (Unsolicited (s .requests) p × (judged s e .session .requests ≡ s .requests))
-        go none x =
-            inr (alone-to s from p agreed r x (sym (ap (noSuchRequest e) (match-at none x)) ∙ none-held s e z .matched), unmatched-keeps s e replying (match-at none x))
-        go (some i) x = inl (i, handed i (reply-frees s e i (placeAt (s .requests) i .request) z (match-at (some i) x)))
-
-    -- once it has been handed to a request, no request with its id waits
-    pub answered-absent : idsDiffer (s .requests) ≡ true → judged s e .number ≡ 0 → (Unsolicited (s .requests) p → ⊥) → NoLive (judged s e .session .requests) (p .id)
-    unfolding eventOf
-    answered-absent u z n = go (lowest (s .requests) query) refl
-      where
-        go : (o : Option ℕ) → lowest (s .requests) query ≡ o → NoLive (judged s e .session .requests) (p .id)
-        go none x = absurd (n (alone-to s from p agreed r x (sym (ap (noSuchRequest e) (match-at none x)) ∙ none-held s e z .matched)))
-        go (some i) x = answered-once s e i (placeAt (s .requests) i .request) z (match-at (some i) x) u
-
-    -- where no request with its id waits, it is refused, but for an unsolicited status, and it frees nothing
-    pub late : NoLive (s .requests) (p .id) → LateReply s from p
-    unfolding eventOf
-    late n =
-        let l = late-reply s e replying from-a-host n in
-        record {
-          without-device = l .absent;
-          refused = λ h x. l .unanswered h (cases (isUnsolicited e) (λ y. absurd (x (alone y))) (λ y. y));
-          kept = l .kept;
-        }
-      where
-        alone : isUnsolicited e ≡ true → Unsolicited (s .requests) p
-        alone y =
-            let v = and-parts (among (14 ∷ 17 ∷ 27 ∷ []) (p .kind) && eqb (p .id) 0) (eqb (field "status" p) 4) (sym (unsolicited-is s from p agreed r) ∙ y) in
-            let x = and-parts (among (14 ∷ 17 ∷ 27 ∷ []) (p .kind)) (eqb (p .id) 0) (v .0) in
-            record {
-              kind = x .0;
-              id = eqb-true (p .id) 0 (x .1);
-              status = eqb-true (field "status" p) 4 (v .1);
-              unmatched = λ i a. n i (a .place) (a .live) (a .id);
-            }
-
--- ---- "Cancel passes with any id and changes nothing."
-
-pub cancel-passes : (s : Session) (id : ℕ) (fields : List Value) (rest : List ℕ) → s .head .present ≡ true
+-- "Cancel passes with any id and changes nothing."
+abbrev pub CancelPasses : Type 0
+CancelPasses =
+    (s : Session) (id : ℕ) (fields : List Value) (rest : List ℕ) → s .head .present ≡ true
     → judged s (eventOf Guest (record { kind = 21; id = id; fields = fields; rest = rest })) ≡ record { session = s; number = 0 }
-unfolding judged numberFor nextFor applied matchOf eventOf meaningOf meanings
-cancel-passes s id fields rest h = rw h

@@ -1,5 +1,6 @@
+pub mod Decoded
 pub mod EachKind
 pub mod WithData
-pub mod Slots
+pub mod RestSlots
 pub mod WrongSize
 pub mod Told

@@ -19,7 +19,7 @@ use Rattle.header.specs.declared.Header.{Header}
 use Rattle.header.specs.declared.Link.{Link}
 use Rattle.header.specs.Link.{sharedSet}
 use Rattle.header.specs.Header.{headerOf, kindOf, lengthOf, headerSize, headerNumber}
-use Rattle.header.specs.Laws.{narrow}
+use Rattle.header.proofs.Widths.{narrow}
 use Rattle.kinds.specs.Table.{kinds, kindAt}
 use Rattle.kinds.specs.Content.{find}
 use Rattle.kinds.specs.Number.{wireNumber, byKind}
@@ -28,9 +28,10 @@ use Rattle.packet.specs.declared.Packet.{Packet}
 use Rattle.packet.specs.Packet.{contentOf}
 use Rattle.decoder.specs.declared.Reading.{Reading}
 use Rattle.decoder.specs.declared.Reading.the-variants.{Refused}
-use Rattle.decoder.specs.Reading.{PacketTold, Told, numbered, toldBehind, told, partAt, kindOr, contentBehind, behindOf, readOf}
-use Rattle.decoder.specs.Body.{ReadsBody, ReadsKind, misfitNumber, finished, contentIn}
-use Rattle.decoder.specs.Laws.{behind-told}
+use Rattle.decoder.specs.Reading.{PacketTold, Told, numbered, toldBehind, told, rowsAt, restAt, kindOr, contentBehind, behindOf, readOf}
+use Rattle.rules.specs.Findings.{missized}
+use Rattle.decoder.specs.Body.{ReadsBody, ReadsKind, finished, contentIn}
+use Rattle.decoder.proofs.Decoded.{behind-told}
 use Rattle.kinds.specs.Slots.{found}
 use Rattle.decoder.proofs.WrongSize.{misfit-refused}
 
@@ -54,8 +55,8 @@ kind-refused : {l : Link} {h : Header} {slot : ℕ} {body : List ℕ} {n : ℕ} 
 kind-refused {l} {h} {slot} {body} {n} e z = record { tells = not-handed n (wireNumber l (contentIn l h slot body)) _ e z }
 
 -- one of a wrong size has the number that `misfit` gives
-pub size-refused : (l : Link) (h : Header) {slot : ℕ} {body : List ℕ} {n : ℕ} → n ≡ misfitNumber l slot (h .id)
-    → wireNumber l (contentIn l h slot body) ≡ misfitNumber l slot (h .id) → ReadsKind l h slot body (Refused n)
+pub size-refused : (l : Link) (h : Header) {slot : ℕ} {body : List ℕ} {n : ℕ} → n ≡ missized l slot (h .id)
+    → wireNumber l (contentIn l h slot body) ≡ missized l slot (h .id) → ReadsKind l h slot body (Refused n)
 size-refused l h {slot} e w = kind-refused (e ∙ sym w) (λ z. misfit-refused l slot (h .id) (sym e ∙ z))
 
 -- a packet that was read has the body's number
@@ -67,7 +68,7 @@ packet-read l h {slot} {body} {p} {n} r e =
     (λ t. rw t (record {
       tells =
           is-handed (wireNumber l (contentIn l h slot body)) _ _ (sym c ∙ eqb-true n 0 t)
-          (λ i. record { header = h; content = r .content (h .id) i; part = r .part i });
+          (λ i. record { header = h; content = r .content (h .id) i; rows = r .rows i; rest = r .rest i });
     }))
     (λ t. rw t (kind-refused c (eqb-false n 0 t)))
 
@@ -85,7 +86,7 @@ module _ (l : Link) (h : Header) (body : List ℕ) where
       let caps : ℕ = sharedSet l in
       let f : some (kindAt slot) ≡ find (h .kind) kinds = sym (found slot s) ∙ ap (λ (m : ℕ). find m kinds) n in
       let q : contentIn l h slot body ≡ contentBehind l h body = ap (λ (m : ℕ). contentAt caps m (h .id) body) n in
-      t .tells ∙ (λ i. numbered (wireNumber l (q i)) (record { header = h; content = q i; part = partAt caps (kindOr (f i)) (length body) }))
+      t .tells ∙ (λ i. numbered (wireNumber l (q i)) (record { header = h; content = q i; rows = rowsAt caps (kindOr (f i)); rest = restAt caps (kindOr (f i)) (length body) }))
 
 -- ---- the bytes of one packet
 

@@ -1,4 +1,4 @@
--- The number of a body that lacks a field (`lacks`), or has bytes behind its fields where its kind has no part, is `misfitNumber` (`misfits`), and
+-- The number of a body that lacks a field (`lacks`), or has bytes behind its fields where nothing may follow them, is `missized` (`misfits`), and
 -- never 0 (`misfit-refused`); any other body of a kind below 100 fits (`fits`).
 -- In either case `sizeOk` fails (`too-short`, `too-long`), so that only 21 and 22 can come before 23, and what is behind it is not asked. What is
 -- read off the wire has no field that is not shared, by induction over the fields (`none-surplus`): 22 is left for the kind's bit and the id.
@@ -13,8 +13,8 @@ use lib.ListN.{length, drop, length-drop}
 use lib.Dec.{eqb, leb, ltb}
 use borrow.Author.Tests.{lt-leb, ltb-true, ltb-false, ne-eqb, not-true, not-false}
 use borrow.Table.Steps.{cases}
-use Rattle.number.specs.Bits.{hasBit}
-use Rattle.number.specs.Logic.{and-parts, or-parts, failing}
+use Rattle.octets.specs.Bits.{hasBit}
+use Rattle.octets.proofs.Logic.{and-parts, or-parts, failing}
 use Rattle.header.specs.declared.Link.{Link}
 use Rattle.header.specs.declared.Side.{Side}
 use Rattle.header.specs.Link.{sharedSet, idWidth}
@@ -22,9 +22,10 @@ use Rattle.kinds.specs.Table.{Field, Tail, nothing, words, string, payload, pay
 use Rattle.kinds.specs.Content.{Value, Content, shared, sizeOf, size, whole, split, fieldsOf}
 use Rattle.kinds.specs.Number.{sends, surplus, wideId, complete, tailOk, sizeOk, bad, isNone, streamsAlone, inOrder, kindNumber, byKind, wireNumber}
 use Rattle.kinds.specs.Codec.{layout, contentAt}
-use Rattle.kinds.specs.Laws.{wide-id, complete-split}
+use Rattle.kinds.proofs.FieldBytes.{wide-id, complete-split}
 use Rattle.decoder.specs.Reading.{isNothing, carries}
-use Rattle.decoder.specs.Body.{Fits, misfitNumber}
+use Rattle.rules.specs.Findings.{missized}
+use Rattle.decoder.specs.Body.{Fits}
 use Rattle.kinds.specs.Slots.{found, only-hello}
 
 -- what is read off the wire has no field that is not shared
@@ -49,7 +50,7 @@ no-tail payload-onward from fs vs n e z = absurd (false≢true e)
 module _ (l : Link) (slot id : ℕ) (body : List ℕ) (small : slot < 33) (fits : id < 256 ^ 8) where
   -- the number where the size is wrong
   of-size : sizeOk (l .sender) (kindAt slot) (contentAt (sharedSet l) (kindAt slot .number) id body) ≡ false
-      → wireNumber l (contentAt (sharedSet l) (kindAt slot .number) id body) ≡ misfitNumber l slot id
+      → wireNumber l (contentAt (sharedSet l) (kindAt slot .number) id body) ≡ missized l slot id
   unfolding wireNumber kindNumber contentAt layout idWidth
   of-size e =
       let caps : ℕ = sharedSet l in
@@ -87,18 +88,18 @@ module _ (l : Link) (slot id : ℕ) (body : List ℕ) (small : slot < 33) (fits 
       let k : Kind = kindAt slot in
       let q : Content = contentAt caps (k .number) id body in
       let f : layout (k .number) ≡ k .fields = ap fieldsOf (found slot small) in
-      let t : isNothing (k .tail) ≡ true = not-false (isNothing (k .tail)) (or-parts (not (isNothing (k .tail))) _ c .0) in
+      let t : isNothing (k .tail) ≡ true = not-false (isNothing (k .tail)) c in
       let r : length (q .rest) ≡ length body - size (shared caps) (k .fields) =
       (λ i. length (drop (size (shared caps) (f i)) body)) ∙ length-drop (size (shared caps) (k .fields)) body in
       failing (complete (k .fields) (q .fields)) _
       (λ _. no-tail (k .tail) (l .sender) (k .fields) (q .fields) (length (q .rest)) t (λ z. let y : length body - size (shared caps) (k .fields) ≡ 0 = sym r ∙ z in omega arith))
 
   pub lacks : length body < size (shared (sharedSet l)) (kindAt slot .fields)
-      → wireNumber l (contentAt (sharedSet l) (kindAt slot .number) id body) ≡ misfitNumber l slot id
+      → wireNumber l (contentAt (sharedSet l) (kindAt slot .number) id body) ≡ missized l slot id
   lacks h = of-size (too-short h)
 
   pub misfits : (ltb (length body) (size (shared (sharedSet l)) (kindAt slot .fields)) || (not (carries (kindAt slot)) && ltb (size (shared (sharedSet l)) (kindAt slot .fields)) (length body))) ≡ true
-      → wireNumber l (contentAt (sharedSet l) (kindAt slot .number) id body) ≡ misfitNumber l slot id
+      → wireNumber l (contentAt (sharedSet l) (kindAt slot .number) id body) ≡ missized l slot id
   misfits h =
       let n : ℕ = length body in
       let m : ℕ = size (shared (sharedSet l)) (kindAt slot .fields) in
@@ -112,14 +113,14 @@ refused-by true b e = omega arith
 refused-by false true e = omega arith
 refused-by false false e = omega arith
 
-pub misfit-refused : (l : Link) (slot id : ℕ) → misfitNumber l slot id ≡ 0 → ⊥
+pub misfit-refused : (l : Link) (slot id : ℕ) → missized l slot id ≡ 0 → ⊥
 misfit-refused l slot id e =
     refused-by (not (sends (kindAt slot .sender) (l .sender)))
     (not (shared (sharedSet l) (kindAt slot .needs)) || (not (eqb slot 0) && not (hasBit (sharedSet l) 5) && leb 4294967296 id)) e
 
 -- ---- a body that fits
 
--- neither holds: all fields are there, and nothing behind them where the kind has no part
+-- neither holds: all fields are there, and nothing behind them where nothing may follow
 pub fits : (caps slot : ℕ) (body : List ℕ) → slot < 28
     → (ltb (length body) (size (shared caps) (kindAt slot .fields)) || (not (carries (kindAt slot)) && ltb (size (shared caps) (kindAt slot .fields)) (length body))) ≡ false
     → Fits caps slot body

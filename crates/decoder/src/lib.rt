@@ -2,11 +2,10 @@
 ghost use mathlib.Core.Path.{_≡_};
 ghost use Prim.Native.Nat.{_≤_, _<_, _^_};
 ghost use lib.ListN.{length};
-ghost use Rattle.number.specs.Little.{le};
+ghost use Rattle.octets.specs.Little.{le};
 ghost use Rattle.kinds.specs.Table.{kindAt};
-ghost use Rattle.packet.specs.Packet.{optional16Of};
 ghost use Rattle.decoder.specs.Reading.{toldBehind, told, behindOf, readOf, carries};
-ghost use Rattle.decoder.specs.Body.{Fits, ReadsBody, ReadsKind, bulkCount, misfitNumber, finished};
+ghost use Rattle.decoder.specs.Body.{Fits, ReadsBody, ReadsKind, bulkCount, finished};
 use endpoint::Endpoint;
 use header::Header;
 use header::Link;
@@ -14,30 +13,53 @@ use header::header_number;
 use header::read_header;
 use header::shared_set;
 use kinds::fields_size;
-use kinds::is_shared;
-use kinds::may_send;
-use number::choose;
-use number::get8;
-use number::get16;
-use number::get32;
-use number::has_bit;
-use packet::Optional16;
+use octets::choose;
+use octets::get8;
+use octets::get16;
+use octets::get32;
+use octets::has_bit;
+use packet::AllocStreams;
+use packet::AltStatus;
+use packet::BufferedBulk;
+use packet::Bulk;
+use packet::BulkReceivingStatus;
+use packet::ConfigurationStatus;
+use packet::Connect;
+use packet::Control;
+use packet::EndpointTable;
+use packet::Filter;
+use packet::FreeStreams;
+use packet::GetAlt;
+use packet::Hello;
+use packet::InterfaceTable;
+use packet::Interrupt;
+use packet::InterruptStatus;
+use packet::Iso;
+use packet::IsoStatus;
 use packet::Packet;
 use packet::Part;
+use packet::SetAlt;
+use packet::SetConfiguration;
+use packet::StartBulkReceiving;
+use packet::StartInterrupt;
+use packet::StartIso;
+use packet::StopBulkReceiving;
+use packet::StopInterrupt;
+use packet::StopIso;
+use packet::StreamsStatus;
 use packet::given16;
 use rules::buffered_number;
 use rules::bulk_number;
 use rules::control_number;
-use rules::in_order;
 use rules::interrupt_number;
-use rules::is_wide;
 use rules::iso_number;
+use rules::size_number;
 use rules::wire_number;
 
 // The number by which the bytes are refused, or the header and the packet that they are.
 pub enum Reading {
     Refused(u8),
-    Passed(Header, Packet),
+    Decoded(Header, Packet),
 }
 
 // The body from a place on.
@@ -50,10 +72,10 @@ fn after(body: &[u8], at: usize) -> Part
     }
 }
 
-fn optional_at(b: bool, body: &[u8], at: usize) -> Optional16
-    ensures { λ r. ⌜ r ≡ optional16Of b (le 2 (now (body .entry)) at) ⌝ }
+fn part_at(start: usize, end: usize) -> Part
+    ensures { λ r. ⌜ r ≡ record { start = start; end = end } ⌝ }
 {
-    given16(b, get16(body, at))
+    Part { start, end }
 }
 
 // "The bulk count is low + 65,536 times high, or low without bit 6."
@@ -68,12 +90,12 @@ fn bulk_count(caps: u32, body: &[u8]) -> u32
     }
 }
 
-// The kind, below 100, has a part of the body behind the fields that its packet holds as numbers.
-fn has_part(slot: usize) -> bool
+// Something may follow the fields of the kind, which is below 100.
+fn has_rest(slot: usize) -> bool
     requires { ⌜ slot < 28 ⌝ }
     ensures { λ r. ⌜ r ≡ carries (kindAt slot) ⌝ }
 {
-    (slot == 0) | (slot == 4) | (slot == 5) | (slot == 23)
+    (slot == 0) | (slot == 23)
 }
 
 // A body whose fields are all there, read by its kind, which is below 100.
@@ -82,121 +104,110 @@ fn read_body(caps: u32, slot: usize, body: &[u8]) -> Packet
     ensures { λ r. ⌜ ReadsBody caps slot (now (body .entry)) r ⌝ }
 {
     match slot {
-        0 => Packet::Hello {
-            rest: after(body, 0),
-        },
-        1 => Packet::Connect {
+        0 => Packet::Hello(Hello {
+            version: part_at(0, 64),
+            words: after(body, 64),
+        }),
+        1 => Packet::Connect(Connect {
             speed: get8(body, 0),
             class: get8(body, 1),
             subclass: get8(body, 2),
             protocol: get8(body, 3),
             vendor: get16(body, 4),
             product: get16(body, 6),
-            version: optional_at(has_bit(caps, 1), body, 8),
-        },
+            version: given16(has_bit(caps, 1), get16(body, 8)),
+        }),
         2 => Packet::Disconnect,
         3 => Packet::Reset,
-        4 => Packet::InterfaceTable {
+        4 => Packet::InterfaceTable(InterfaceTable {
             count: get32(body, 0),
-            rows: after(body, 4),
-        },
-        5 => Packet::EndpointTable {
-            rows: after(body, 0),
-            max_packet: has_bit(caps, 4),
-            max_streams: has_bit(caps, 4) & has_bit(caps, 0),
-        },
-        6 => Packet::SetConfiguration {
+            rows: part_at(4, 132),
+        }),
+        5 => {
+            let packets = has_bit(caps, 4);
+            let streams = packets & has_bit(caps, 0);
+            Packet::EndpointTable(EndpointTable {
+                rows: part_at(0, fields_size(5, caps)),
+                maxpacket: packets,
+                maxstreams: streams,
+            })
+        }
+        6 => Packet::SetConfiguration(SetConfiguration {
             configuration: get8(body, 0),
-        },
+        }),
         7 => Packet::GetConfiguration,
-        8 => Packet::ConfigurationStatus {
+        8 => Packet::ConfigurationStatus(ConfigurationStatus {
             status: get8(body, 0),
             configuration: get8(body, 1),
-        },
-        9 => Packet::SetAlt {
+        }),
+        9 => Packet::SetAlt(SetAlt {
             interface: get8(body, 0),
             alt: get8(body, 1),
-        },
-        10 => Packet::GetAlt {
+        }),
+        10 => Packet::GetAlt(GetAlt {
             interface: get8(body, 0),
-        },
-        11 => Packet::AltStatus {
+        }),
+        11 => Packet::AltStatus(AltStatus {
             status: get8(body, 0),
             interface: get8(body, 1),
             alt: get8(body, 2),
-        },
-        12 => Packet::StartIso {
+        }),
+        12 => Packet::StartIso(StartIso {
             endpoint: Endpoint(get8(body, 0)),
             packets: get8(body, 1),
             urbs: get8(body, 2),
-        },
-        13 => Packet::StopIso {
+        }),
+        13 => Packet::StopIso(StopIso {
             endpoint: Endpoint(get8(body, 0)),
-        },
-        14 => Packet::IsoStatus {
+        }),
+        14 => Packet::IsoStatus(IsoStatus {
             status: get8(body, 0),
             endpoint: Endpoint(get8(body, 1)),
-        },
-        15 => Packet::StartInterrupt {
+        }),
+        15 => Packet::StartInterrupt(StartInterrupt {
             endpoint: Endpoint(get8(body, 0)),
-        },
-        16 => Packet::StopInterrupt {
+        }),
+        16 => Packet::StopInterrupt(StopInterrupt {
             endpoint: Endpoint(get8(body, 0)),
-        },
-        17 => Packet::InterruptStatus {
+        }),
+        17 => Packet::InterruptStatus(InterruptStatus {
             status: get8(body, 0),
             endpoint: Endpoint(get8(body, 1)),
-        },
-        18 => Packet::AllocStreams {
+        }),
+        18 => Packet::AllocStreams(AllocStreams {
             mask: get32(body, 0),
             count: get32(body, 4),
-        },
-        19 => Packet::FreeStreams {
+        }),
+        19 => Packet::FreeStreams(FreeStreams {
             mask: get32(body, 0),
-        },
-        20 => Packet::StreamsStatus {
+        }),
+        20 => Packet::StreamsStatus(StreamsStatus {
             mask: get32(body, 0),
             count: get32(body, 4),
             status: get8(body, 8),
-        },
+        }),
         21 => Packet::Cancel,
         22 => Packet::FilterReject,
-        23 => Packet::Filter {
+        23 => Packet::Filter(Filter {
             string: after(body, 0),
-        },
+        }),
         24 => Packet::DisconnectAck,
-        25 => Packet::StartBulkReceiving {
+        25 => Packet::StartBulkReceiving(StartBulkReceiving {
             stream: get32(body, 0),
             bytes: get32(body, 4),
             endpoint: Endpoint(get8(body, 8)),
             transfers: get8(body, 9),
-        },
-        26 => Packet::StopBulkReceiving {
+        }),
+        26 => Packet::StopBulkReceiving(StopBulkReceiving {
             stream: get32(body, 0),
             endpoint: Endpoint(get8(body, 4)),
-        },
-        _ => Packet::BulkReceivingStatus {
+        }),
+        _ => Packet::BulkReceivingStatus(BulkReceivingStatus {
             stream: get32(body, 0),
             endpoint: Endpoint(get8(body, 4)),
             status: get8(body, 5),
-        },
+        }),
     }
-}
-
-// A body that lacks a field, or has more bytes than fields where nothing may follow: 23, or a number before it.
-// It also says that the id is below 2 to the 64th.
-fn misfit(l: Link, slot: usize, id: u64) -> u8
-    ensures { λ r. ⌜ (r ≡ misfitNumber l slot id) × (id < 256 ^ 8) ⌝ }
-{
-    let caps = shared_set(l);
-    let from = l.sender;
-    in_order(
-        !may_send(slot, from),
-        !is_shared(slot, caps) | is_wide(slot, caps, id),
-        true,
-        false,
-        false,
-    )
 }
 
 // A packet with its number: it passes where that is 0.
@@ -204,7 +215,7 @@ fn finish(h: Header, number: u8, p: Packet) -> Reading
     ensures { λ r. ⌜ r ≡ finished h number p ⌝ }
 {
     if number == 0 {
-        Reading::Passed(h, p)
+        Reading::Decoded(h, p)
     } else {
         Reading::Refused(number)
     }
@@ -219,8 +230,8 @@ fn read_kind(l: Link, h: Header, slot: usize, body: &[u8]) -> Reading
     let id = h.id;
     let n = body.len();
     let size = fields_size(slot, caps);
-    if (n < size) | (!has_part(slot) & (size < n)) {
-        return Reading::Refused(misfit(l, slot, id));
+    if (n < size) | (!has_rest(slot) & (size < n)) {
+        return Reading::Refused(size_number(l, slot, id));
     }
     let p = read_body(caps, slot, body);
     finish(h, wire_number(l, id, p, body), p)
@@ -231,7 +242,7 @@ fn read_control(l: Link, h: Header, body: &[u8]) -> Reading
     ensures { λ r. ⌜ ReadsKind l h 28 (now (body .entry)) r ⌝ }
 {
     if body.len() < 10 {
-        return Reading::Refused(misfit(l, 28, h.id));
+        return Reading::Refused(size_number(l, 28, h.id));
     }
     let endpoint = Endpoint(get8(body, 0));
     let request = get8(body, 1);
@@ -240,21 +251,18 @@ fn read_control(l: Link, h: Header, body: &[u8]) -> Reading
     let value = get16(body, 4);
     let index = get16(body, 6);
     let length = get16(body, 8);
-    let data = after(body, 10);
-    finish(
-        h,
-        control_number(l, h.id, endpoint, requesttype, status, length, data, body),
-        Packet::Control {
-            endpoint,
-            request,
-            requesttype,
-            status,
-            value,
-            index,
-            length,
-            data,
-        },
-    )
+    let payload = after(body, 10);
+    let p = Control {
+        endpoint,
+        request,
+        requesttype,
+        status,
+        value,
+        index,
+        length,
+        payload,
+    };
+    finish(h, control_number(l, h.id, p, body), Packet::Control(p))
 }
 
 fn read_bulk(l: Link, h: Header, body: &[u8]) -> Reading
@@ -263,91 +271,83 @@ fn read_bulk(l: Link, h: Header, body: &[u8]) -> Reading
     let caps = shared_set(l);
     let head = choose(has_bit(caps, 6), 10, 8);
     if body.len() < head {
-        return Reading::Refused(misfit(l, 29, h.id));
+        return Reading::Refused(size_number(l, 29, h.id));
     }
     let endpoint = Endpoint(get8(body, 0));
     let status = get8(body, 1);
     let length = bulk_count(caps, body);
     let stream = get32(body, 4);
-    let data = after(body, head);
-    finish(
-        h,
-        bulk_number(l, h.id, endpoint, status, length, stream, data, body),
-        Packet::Bulk {
-            endpoint,
-            status,
-            length,
-            stream,
-            data,
-        },
-    )
+    let payload = after(body, head);
+    let p = Bulk {
+        endpoint,
+        status,
+        length,
+        stream,
+        payload,
+    };
+    finish(h, bulk_number(l, h.id, p, body), Packet::Bulk(p))
 }
 
 fn read_iso(l: Link, h: Header, body: &[u8]) -> Reading
     ensures { λ r. ⌜ ReadsKind l h 30 (now (body .entry)) r ⌝ }
 {
     if body.len() < 4 {
-        return Reading::Refused(misfit(l, 30, h.id));
+        return Reading::Refused(size_number(l, 30, h.id));
     }
     let endpoint = Endpoint(get8(body, 0));
     let status = get8(body, 1);
     let length = get16(body, 2);
-    let data = after(body, 4);
-    finish(
-        h,
-        iso_number(l, h.id, endpoint, status, length, data, body),
-        Packet::Iso {
-            endpoint,
-            status,
-            length,
-            data,
-        },
-    )
+    let payload = after(body, 4);
+    let p = Iso {
+        endpoint,
+        status,
+        length,
+        payload,
+    };
+    finish(h, iso_number(l, h.id, p, body), Packet::Iso(p))
 }
 
 fn read_interrupt(l: Link, h: Header, body: &[u8]) -> Reading
     ensures { λ r. ⌜ ReadsKind l h 31 (now (body .entry)) r ⌝ }
 {
     if body.len() < 4 {
-        return Reading::Refused(misfit(l, 31, h.id));
+        return Reading::Refused(size_number(l, 31, h.id));
     }
     let endpoint = Endpoint(get8(body, 0));
     let status = get8(body, 1);
     let length = get16(body, 2);
-    let data = after(body, 4);
-    finish(
-        h,
-        interrupt_number(l, h.id, endpoint, status, length, data, body),
-        Packet::Interrupt {
-            endpoint,
-            status,
-            length,
-            data,
-        },
-    )
+    let payload = after(body, 4);
+    let p = Interrupt {
+        endpoint,
+        status,
+        length,
+        payload,
+    };
+    finish(h, interrupt_number(l, h.id, p, body), Packet::Interrupt(p))
 }
 
 fn read_buffered(l: Link, h: Header, body: &[u8]) -> Reading
     ensures { λ r. ⌜ ReadsKind l h 32 (now (body .entry)) r ⌝ }
 {
     if body.len() < 10 {
-        return Reading::Refused(misfit(l, 32, h.id));
+        return Reading::Refused(size_number(l, 32, h.id));
     }
     let stream = get32(body, 0);
     let length = get32(body, 4);
     let endpoint = Endpoint(get8(body, 8));
     let status = get8(body, 9);
-    let data = after(body, 10);
+    let payload = after(body, 10);
+    let p = BufferedBulk {
+        stream,
+        length,
+        endpoint,
+        status,
+        payload,
+    };
     finish(
         h,
-        buffered_number(l, h.id, length, endpoint, status, data, body),
-        Packet::BufferedBulk {
-            stream,
-            length,
-            endpoint,
-            status,
-            data,
-        },
+        buffered_number(l, h.id, p, body),
+        Packet::BufferedBulk(p),
     )
 }
 

@@ -1,60 +1,38 @@
--- Demand 3, of the reader and the writer that the contracts of `gate::offer` and `gate::write` cite: one theorem about lists.
--- The general theorem (`wire/specs/Demand3.antt`) asks laws of one call; here the reader and the writer are shown to have them.
--- Assumes nothing.
-use Prim.Native.Nat.{ℕ, _+_, _-_, _≤_}
-use native.Mathlib.Omega.{arith}
-use mathlib.Core.Path.{_≡_, refl, sym, ap, subst, _∙_}
-use mathlib.Core.Bool.{Bool, true, false, cond, true≢false, and-false}
-use mathlib.Core.List.{List, [], _∷_, _++_}
-use mathlib.Core.Option.{Option, none, some}
-use mathlib.Core.Logic.{inl, inr}
-use lib.ListN.{length, take, drop}
-use lib.Seq.{sets, length-sets, length-take-le, take-append-seam}
-use lib.Dec.{eqb}
-use borrow.Author.Tests.{ne-eqb, le-ltb}
-use Rattle.number.specs.Laws.{take-sets}
+-- Demand 3, of the reader and the writer that the contracts of `gate::offer` and `gate::write` cite: one theorem about lists, `GateDemand3`. What it
+-- says of a reader and a writer is the record `Demand3` (`wire/specs/Reader.antt`).
+-- Assumes nothing: these are definitions and statements.
+use Prim.Native.Nat.{ℕ, _≤_}
+use mathlib.Core.Bool.{true, false}
+use mathlib.Core.List.{List}
+use mathlib.Core.Path.{_≡_}
+use lib.ListN.{length, take}
 use Rattle.header.specs.declared.Side.{Side}
-use Rattle.header.specs.declared.Side.the-variants.{Guest, Host}
-use Rattle.header.specs.declared.Link.{Link}
-use Rattle.header.specs.Link.{passed, own, opposite}
+use Rattle.header.specs.Link.{passed, opposite}
 use Rattle.kinds.specs.Content.{Content}
-use Rattle.kinds.specs.Codec.{decode, encode, readNumber, packetNumber, writeNumber, written, writtenSize, Accepted}
-use Rattle.kinds.specs.RoundTrip.{both-zero}
-use Rattle.decoder.specs.Reading.{PacketTold, readOf}
-use Rattle.events.specs.Event.{eventOf}
+use Rattle.frame.specs.Frame.{bytesAt}
+use Rattle.wire.specs.Usbredir.{usbredir}
+use Rattle.wire.specs.Reader.{Answer, Reader, Writer, Demand3}
+use Rattle.encoder.specs.declared.Written.{Written}
 use Rattle.session.specs.declared.Session.{Session}
 use Rattle.session.specs.Session.{linkOf, unfit}
-use Rattle.session.specs.Step.{judged}
-use Rattle.claims.specs.Kept.{kept-plain}
-use Rattle.frame.specs.Cut.{more, whole}
-use Rattle.wire.specs.Wire.{OneOf}
-use Rattle.wire.specs.Reader.{Answer, Reader, comesOut, Kept, Stopped, Part, Full, Open, ReaderLaws, Writer, WriterLaws, Demand3}
-use Rattle.wire.specs.Demand3.{demand3}
-use Rattle.wire.specs.Usbredir.{usbredir, laws, unshared-number, unsuited-number}
-use Rattle.frame.specs.Frame.{cutAt, completed}
-use Rattle.gate.specs.Verdict.{heldOf, heldAs, VerdictTold, verdictOf}
-use Rattle.gate.specs.Offer.{heldBytes, heldWhole, isWaiting, barred, Outcome, unmoved, kept, packetTaken, byCut, offerOf}
-use Rattle.encoder.specs.declared.Written.{Written}
-use Rattle.gate.specs.Write.{shut, writeBy, output, outputSize, WritesBy}
-use Rattle.gate.specs.Laws.{completed-length, more-few, Ready, not-barred, fit-is, is-fit, held-few}
-use Rattle.demands.specs.Numbers.{Each, session-numbers}
-use Rattle.demands.specs.Kept.{held-as, same-held, Established, Keeps, offer-keeps}
+use Rattle.gate.specs.Verdict.{heldOf, handedAs}
+use Rattle.gate.specs.Offer.{heldBytes, offerOf, outcome}
+use Rattle.gate.specs.Write.{WritesBy}
+use Rattle.gate.specs.Ready.{Fit}
+use Rattle.gate.specs.declared.Offered.{Offered}
+use Rattle.demands.specs.Demand2.{contents}
 
 -- ---- the reader of a direction
 
 -- what the calls hand on: "session and holding buffer as the calls before it left them", of both directions
-pub record State : Type 0 where
+pub record GateState : Type 0 where
   pub session : Session
   pub hold : List ℕ
   pub other : List ℕ
 
-abbrev pub contents : Option PacketTold → List Content
-contents none = []
-contents (some h) = h .content ∷ []
-
 -- a call for the direction
-abbrev pub readBy : Side → State → List ℕ → Answer Content State
-readBy from x piece =
+abbrev pub readCall : Side → GateState → List ℕ → Answer Content GateState
+readCall from x piece =
     record {
       number = offerOf from (x .session) (x .hold) piece .number;
       taken = offerOf from (x .session) (x .hold) piece .taken;
@@ -63,7 +41,7 @@ readBy from x piece =
     }
 
 -- a call for the other: any piece, with its own buffer and its own held bytes, whatever these are
-abbrev pub otherBy : Side → State → List ℕ → State
+abbrev pub otherBy : Side → GateState → List ℕ → GateState
 otherBy from x piece =
     record {
       session = offerOf (opposite from) (x .session) (x .other) piece .session;
@@ -71,8 +49,16 @@ otherBy from x piece =
       other = offerOf (opposite from) (x .session) (x .other) piece .hold;
     }
 
+-- what every call keeps of a session
+pub record Established (s : Session) : Type 0 where
+  -- "both hellos passed"
+  pub guest : passed (s .head .guest) ≡ true
+  pub host : passed (s .head .host) ≡ true
+  -- "one that 43 doesn't refuse"
+  pub fit : Fit s
+
 -- what every call keeps
-pub record SoundState (x : State) : Type 0 where
+pub record SoundState (x : GateState) : Type 0 where
   pub session : Established (x .session)
   -- "a buffer that 41 allows"
   pub room : 32784 ≤ length (x .hold)
@@ -80,209 +66,78 @@ pub record SoundState (x : State) : Type 0 where
 abbrev pub reader : Side → Reader usbredir
 reader from =
     record {
-      X = State;
+      X = GateState;
       O = List ℕ;
       ctx = λ x. linkOf from (x .session);
       stopped = λ x. x .session .head .stopped;
       held = λ x. heldBytes from (x .session) (x .hold);
       Sound = SoundState;
-      read = readBy from;
+      read = readCall from;
       other = otherBy from;
     }
 
+-- what a call of `gate::offer` told, with its holding buffer after it, is what a call of this reader tells
+pub record ReadOf (from : Side) (x : GateState) (piece : List ℕ) (r : Offered) (after : List ℕ) : Type 0 where
+  pub number : readCall from x piece .number ≡ r .answer .number
+  pub taken : readCall from x piece .taken ≡ r .answer .taken
+  pub next : readCall from x piece .next ≡ record { session = r .session; hold = after; other = x .other }
+  pub handed : readCall from x piece .handed ≡ contents (handedAs (linkOf from (x .session)) (bytesAt (r .answer .location) (r .answer .size) piece after) (r .answer .handed))
+
+-- every call of `gate::offer`, by its contract, is a call of this reader (`read-of`)
+abbrev pub ReadsAreCalls : Type 0
+ReadsAreCalls =
+    (from : Side) (x : GateState) (piece after : List ℕ) (r : Offered)
+    → outcome (linkOf from (x .session)) r piece after ≡ offerOf from (x .session) (x .hold) piece → ReadOf from x piece r after
+
+-- and for the other direction it leaves what a call of the other leaves (`other-of`)
+abbrev pub OthersAreCalls : Type 0
+OthersAreCalls =
+    (from : Side) (x : GateState) (piece after : List ℕ) (r : Offered)
+    → outcome (linkOf (opposite from) (x .session)) r piece after ≡ offerOf (opposite from) (x .session) (x .other) piece
+    → otherBy from x piece ≡ record { session = r .session; hold = x .hold; other = after }
+
 -- ---- the writer of the direction
 
--- a call with the session s: its packet and its output. Where it is accepted, the packet's numbers fit their fields, as the types of the
--- code's fields make them: the contract of `gate::write` says it of each call (`call-of`).
+-- a call of `gate::write` with the session s: its packet, the output before and after it, and what it answered, of which its contract holds
 pub record WriterCall (from : Side) (s : Session) : Type 0 where
   pub packet : Content
   pub out : List ℕ
-  pub fits : writeBy from s packet (length out) ≡ 0 → Accepted (linkOf from s) packet
+  pub answer : Written
+  pub after : List ℕ
+  pub contract : WritesBy from s packet out answer after
 
--- the bytes put out are the first of the output
+-- the bytes put out are the first of the output, as many as the answer says
 abbrev pub writer : Side → Session → Writer usbredir
 writer from s =
     record {
       W = WriterCall from s;
       packet = λ w. w .packet;
-      number = λ w. writeBy from s (w .packet) (length (w .out));
-      put = λ w. take (outputSize from s (w .packet) (length (w .out))) (output from s (w .packet) (w .out));
+      number = λ w. w .answer .number;
+      put = λ w. take (w .answer .size) (w .after);
     }
 
--- every call of the code is such a call, with its packet, its number and the bytes that it put out
-pub record CallOf (from : Side) (s : Session) (p : Content) (r : Written) (after : List ℕ) : Type 0 where
+-- one with this packet, this output before and after it, and this answer; so with the number and the bytes put out that the code answered
+pub record CallOf (from : Side) (s : Session) (p : Content) (space : List ℕ) (r : Written) (left : List ℕ) : Type 0 where
   pub call : WriterCall from s
+  pub out : call .out ≡ space
+  pub answer : call .answer ≡ r
+  pub after : call .after ≡ left
   pub packet : writer from s .packet call ≡ p
   pub number : writer from s .number call ≡ r .number
-  pub put : writer from s .put call ≡ take (r .size) after
+  pub put : writer from s .put call ≡ take (r .size) left
 
-pub call-of : (from : Side) (s : Session) (p : Content) (out after : List ℕ) (r : Written) → WritesBy from s p out r after → CallOf from s p r after
-call-of from s p out after r w =
-    record {
-      call = record { packet = p; out = out; fits = λ e. w .accepted (w .number ∙ e) };
-      packet = refl;
-      number = sym (w .number);
-      put = rw (w .size, w .output) refl;
-    }
-
--- ---- one call
-
-module _ (from : Side) (s : Session) (hold piece : List ℕ) where
-  pub offer-barred : (barred from s hold ≡ 0 → ⊥) → offerOf from s hold piece ≡ unmoved s hold (barred from s hold)
-  unfolding offerOf
-  offer-barred z = rw (ne-eqb (barred from s hold) 0 z) refl
-
-  pub offer-open : Ready from s hold → offerOf from s hold piece ≡ byCut from s hold piece (cutAt (linkOf from s) (heldBytes from s hold ++ piece))
-  unfolding offerOf
-  offer-open r = rw (not-barred from s hold r) refl
-
-opposite-twice : (d : Side) → opposite (opposite d) ≡ d
-opposite-twice Guest = refl
-opposite-twice Host = refl
-
--- with both hellos passed no direction waits
-not-waiting : (from : Side) (s : Session) → Established s → isWaiting (linkOf from s) ≡ false
-not-waiting from s h = rw (h .guest, h .host) (and-false (passed (own (linkOf from s))))
-
--- a state from which the direction can be read
-is-ready : (from : Side) (x : State) → Open usbredir (reader from) x → Ready from (x .session) (x .hold)
-is-ready from x o =
-    record {
-      room = o .sound .room;
-      fit = is-fit (x .session) (o .sound .session .fit);
-      begun = o .begun;
-      running = o .running;
-      not-waiting = not-waiting from (x .session) (o .sound .session);
-    }
-
--- the session after a call, and the link
-module _ (from : Side) (x : State) (piece : List ℕ) (h : SoundState x) where
-  keeps : Keeps from (x .session) (offerOf from (x .session) (x .hold) piece .session)
-  keeps = offer-keeps from (x .session) (x .hold) piece (h .session)
-
-  same-link : (d : Side) → linkOf d (offerOf from (x .session) (x .hold) piece .session) ≡ linkOf d (x .session)
-  same-link d = λ i. record { sender = d; guest = keeps .guest i; host = keeps .host i }
-
-  after : length (offerOf from (x .session) (x .hold) piece .hold) ≡ length (x .hold) → Kept usbredir (reader from) x (readBy from x piece .next)
-  after e = record { ctx = same-link from; sound = record { session = keeps .established; room = rw e (h .room) } }
-
--- ---- the laws of the reader
-
-stopped-bar : (from : Side) (x : State) → SoundState x → x .session .head .stopped ≡ true → (b : Bool) → heldWhole from (x .session) (x .hold) ≡ b → barred from (x .session) (x .hold) ≡ cond b 43 3
-unfolding barred
-stopped-bar from x h z b e = rw (le-ltb (length (x .hold)) 32784 (h .room), is-fit (x .session) (h .session .fit), e, z) refl
-
--- a stopped session
-stopped-call : (from : Side) (x : State) (piece : List ℕ) → SoundState x → x .session .head .stopped ≡ true → Stopped usbredir (reader from) x piece
-unfolding comesOut
-stopped-call from x piece h z = go (heldWhole from (x .session) (x .hold)) refl
-  where
-    from-bar : (n : ℕ) → barred from (x .session) (x .hold) ≡ n → (n ≡ 0 → ⊥) → comesOut n ≡ false → Stopped usbredir (reader from) x piece
-    from-bar n e nz c =
-        let q : offerOf from (x .session) (x .hold) piece ≡ unmoved (x .session) (x .hold) n = offer-barred from (x .session) (x .hold) piece (λ y. nz (sym e ∙ y)) ∙ ap (unmoved (x .session) (x .hold)) e in
-        record { number = rw q c; taken = rw q refl; next = rw q refl; handed = rw q refl }
-
-    go : (b : Bool) → heldWhole from (x .session) (x .hold) ≡ b → Stopped usbredir (reader from) x piece
-    go true e = from-bar 43 (stopped-bar from x h z true e) (λ y. omega arith) refl
-    go false e = from-bar 3 (stopped-bar from x h z false e) (λ y. omega arith) refl
-
--- a packet that is not whole
-part-call : (from : Side) (x : State) (piece : List ℕ) → Open usbredir (reader from) x → cutAt (linkOf from (x .session)) (heldBytes from (x .session) (x .hold) ++ piece) ≡ more
-    → Part usbredir (reader from) x piece
-part-call from x piece o e =
-    let s : Session = x .session in
-    let r : Ready from s (x .hold) = is-ready from x o in
-    let few = more-few (linkOf from s) (x .hold) piece (heldOf from s) (r .room) (held-few from s (r .fit)) e in
-    let q : offerOf from s (x .hold) piece ≡ kept from s (x .hold) piece = offer-open from s (x .hold) piece r ∙ ap (byCut from s (x .hold) piece) e in
-    let f : take (heldOf from s + length piece) (sets (x .hold) (heldOf from s) piece) ≡ heldBytes from s (x .hold) ++ piece = take-sets (x .hold) piece (heldOf from s) (omega (arith, r .room)) in
-    record {
-      number = ap (λ (p : Outcome). p .number) q;
-      taken = ap (λ (p : Outcome). p .taken) q;
-      held = ap (λ (p : Outcome). heldBytes from (p .session) (p .hold)) q ∙ ap (λ (k : ℕ). take k (sets (x .hold) (heldOf from s) piece)) (held-as from s (heldOf from s + length piece)) ∙ f;
-      handed = ap (λ (p : Outcome). contents (p .handed)) q;
-      running = ap (λ (p : Outcome). p .session .head .stopped) q ∙ r .running;
-      kept = after from x piece (o .sound) (ap (λ (p : Outcome). length (p .hold)) q ∙ length-sets (x .hold) (heldOf from s) piece);
-    }
-
--- a whole packet that passes the wire checks is judged
-abbrev pub judgedOf : Session → Side → List ℕ → VerdictTold
-judgedOf s from b =
-    record {
-      session = judged s (eventOf from (decode (linkOf from s) b)) .session;
-      number = judged s (eventOf from (decode (linkOf from s) b)) .number;
-      handed = cond (eqb (judged s (eventOf from (decode (linkOf from s) b)) .number) 0) (readOf (linkOf from s) b .handed) none;
-    }
-
-pub verdict-open : (s : Session) (from : Side) (b : List ℕ) → readNumber (linkOf from s) b ≡ 0 → verdictOf s from b ≡ judgedOf s from b
-unfolding verdictOf
-verdict-open s from b z = rw z refl
-
-pub handed-when : (b : Bool) (l : Link) (bytes : List ℕ) (q : Content) → readNumber l bytes ≡ 0 → decode l bytes ≡ q → contents (cond b (readOf l bytes .handed) none) ≡ cond b (q ∷ []) []
-unfolding readOf
-handed-when true l bytes q z e = rw z (ap (λ (p : Content). p ∷ []) e)
-handed-when false l bytes q z e = refl
-
-full-call : (from : Side) (x : State) (piece : List ℕ) (n : ℕ) (q : Content) → Open usbredir (reader from) x
-    → cutAt (linkOf from (x .session)) (heldBytes from (x .session) (x .hold) ++ piece) ≡ whole n
-    → readNumber (linkOf from (x .session)) (take n (heldBytes from (x .session) (x .hold) ++ piece)) ≡ 0
-    → decode (linkOf from (x .session)) (take n (heldBytes from (x .session) (x .hold) ++ piece)) ≡ q
-    → Full usbredir (reader from) x piece n q
-unfolding comesOut
-full-call from x piece n q o e z d =
-    let s : Session = x .session in
-    let r : Ready from s (x .hold) = is-ready from x o in
-    let b : List ℕ = take n (heldBytes from s (x .hold) ++ piece) in
-    let j = judged (heldAs from 0 s) (eventOf from (decode (linkOf from s) b)) in
-    let k = kept-plain (heldAs from 0 s) (eventOf from (decode (linkOf from s) b)) in
-    let v = offer-open from s (x .hold) piece r ∙ ap (byCut from s (x .hold) piece) e ∙ ap (λ (t : VerdictTold). packetTaken from s (x .hold) piece t n) (verdict-open (heldAs from 0 s) from b z) in
-    let c : length (heldBytes from s (x .hold)) ≡ heldOf from s = length-take-le (heldOf from s) (x .hold) (omega (arith, r .room, held-few from s (r .fit))) in
-    record {
-      number = ap (λ (p : Outcome). comesOut (p .number)) v ∙ session-numbers (λ m. comesOut m ≡ true) (refl, (refl, (refl, (refl, (refl, (refl, (refl, (refl, (refl, (refl, (refl, tt))))))))))) (heldAs from 0 s) (eventOf from (decode (linkOf from s) b));
-      taken = ap (λ (p : Outcome). p .taken) v ∙ ap (λ (m : ℕ). n - m) (sym c);
-      held = ap (λ (p : Outcome). heldBytes from (p .session) (p .hold)) v ∙ ap (λ (m : ℕ). take m (completed (x .hold) (heldOf from s) piece n)) (same-held from (heldAs from 0 s) (j .session) (k .held) ∙ held-as from s 0);
-      handed = ap (λ (p : Outcome). contents (p .handed)) v ∙ handed-when (eqb (j .number) 0) (linkOf from s) b q z d ∙ ap (λ (m : ℕ). cond (eqb m 0) (q ∷ []) []) (sym (ap (λ (p : Outcome). p .number) v));
-      running = ap (λ (p : Outcome). p .session .head .stopped) v ∙ k .stopped ∙ r .running;
-      kept = after from x piece (o .sound) (ap (λ (p : Outcome). length (p .hold)) v ∙ completed-length (x .hold) piece (heldOf from s) n);
-    }
-
--- a call for the other direction
-other-call : (from : Side) (x : State) (piece : List ℕ) → SoundState x → Kept usbredir (reader from) x (otherBy from x piece) × (heldBytes from (otherBy from x piece .session) (x .hold) ≡ heldBytes from (x .session) (x .hold))
-other-call from x piece h =
-    let k = offer-keeps (opposite from) (x .session) (x .other) piece (h .session) in
-    let e : heldOf from (otherBy from x piece .session) ≡ heldOf from (x .session) = subst (λ (d : Side). heldOf d (otherBy from x piece .session) ≡ heldOf d (x .session)) (opposite-twice from) (k .held) in (
-      record { ctx = λ i. record { sender = from; guest = k .guest i; host = k .host i }; sound = record { session = k .established; room = h .room } },
-      ap (λ (n : ℕ). take n (x .hold)) e,
-    )
-
-reader-laws : (from : Side) → ReaderLaws usbredir (reader from)
-reader-laws from =
-    record {
-      stopped = stopped-call from;
-      part = part-call from;
-      full = λ x piece n q o e z d a. full-call from x piece n q o e z d;
-      other = λ x piece h. other-call from x piece h .0;
-      other-held = λ x piece h. other-call from x piece h .1;
-    }
-
--- ---- the laws of the writer
-
--- where a call's number is 0, so are its parts
-write-zero : (from : Side) (s : Session) (p : Content) (room : ℕ) → writeBy from s p room ≡ 0 → (shut from s (eqb (p .kind) 0) ≡ 0) × (writeNumber (linkOf from s) p room ≡ 0)
-unfolding writeBy
-write-zero from s p room e = both-zero (shut from s (eqb (p .kind) 0)) (writeNumber (linkOf from s) p room) e
-
-puts : (from : Side) (s : Session) (p : Content) (out : List ℕ) → writeBy from s p (length out) ≡ 0 → take (outputSize from s p (length out)) (output from s p out) ≡ encode (linkOf from s) p
-unfolding output outputSize written writtenSize
-puts from s p out e =
-    let z = write-zero from s p (length out) e in
-    rw (z .0, z .1) (take-append-seam (encode (linkOf from s) p) (drop (length (encode (linkOf from s) p)) out))
+-- every call of `gate::write`, by its contract, is one (`call-of`)
+abbrev pub WritesAreCalls : Type 0
+WritesAreCalls =
+    (from : Side) (s : Session) (p : Content) (out after : List ℕ) (r : Written) → WritesBy from s p out r after → CallOf from s p out r after
 
 -- ---- where it starts
 
 -- "Take any session that isn't stopped, both hellos passed with any capability sets that document 01 admits, .. and one direction at a
 -- packet's start"; "one that 43 doesn't refuse"; "The direction starts with nothing held and a buffer that 41 allows". Of the other
--- direction's buffer nothing is asked, and of its held bytes only that 43 allows their count.
-pub record Starts (from : Side) (x : State) : Type 0 where
+-- direction's buffer nothing is asked, and of its held bytes only that 43 allows their count. `unfit` is 43's test of a session; in words it is
+-- `Leavable` (`PassesInWords.antt`), and `passes-exactly` joins the two.
+pub record Starts (from : Side) (x : GateState) : Type 0 where
   pub running : x .session .head .stopped ≡ false
   pub guest : passed (x .session .head .guest) ≡ true
   pub host : passed (x .session .head .host) ≡ true
@@ -290,52 +145,9 @@ pub record Starts (from : Side) (x : State) : Type 0 where
   pub nothing-held : heldOf from (x .session) ≡ 0
   pub room : 32784 ≤ length (x .hold)
 
-module _ (from : Side) (x : State) (h : Starts from x) where
-  established : Established (x .session)
-  established = record { guest = h .guest; host = h .host; fit = fit-is (x .session) (h .fit) }
-
-  -- no writer call from there is shut by 43, 3 or 2
-  going : (hello : Bool) → shut from (x .session) hello ≡ 0
-  unfolding shut
-  going hello = rw (h .fit, h .running, not-waiting from (x .session) established) refl
-
-  -- and 11 cannot be
-  own-passed : passed (own (linkOf from (x .session))) ≡ false → ⊥
-  own-passed e = true≢false (sym (by from) ∙ e)
-    where
-      by : (d : Side) → passed (own (linkOf d (x .session))) ≡ true
-      by Guest = h .guest
-      by Host = h .host
-
-  -- a number of the wire checks other than 0 is the call's
-  refused-by : (ms : List ℕ) → Each (λ m. m ≡ 0 → ⊥) ms → (p : Content) (room : ℕ) → OneOf ms (packetNumber (linkOf from (x .session)) p) → OneOf ms (writeBy from (x .session) p room)
-  unfolding writeBy writeNumber
-  refused-by ms a p room o = rw (going (eqb (p .kind) 0), ne-eqb (packetNumber (linkOf from (x .session)) p) 0 (none-zero ms _ a o)) o
-    where
-      none-zero : (ms : List ℕ) (n : ℕ) → Each (λ m. m ≡ 0 → ⊥) ms → OneOf ms n → n ≡ 0 → ⊥
-      none-zero [] n a o z = o
-      none-zero (m ∷ ms) n a (inl e) z = a .0 (sym e ∙ z)
-      none-zero (m ∷ ms) n a (inr o) z = none-zero ms n (a .1) o z
-
-  writer-laws : WriterLaws usbredir (linkOf from (x .session)) (writer from (x .session))
-  writer-laws =
-      record {
-        checked = λ w e. w .fits e;
-        bytes = λ w e. puts from (x .session) (w .packet) (w .out) e;
-        unshared = λ w u.
-            let ms : List ℕ = usbredir .unsharedNumbers in
-            refused-by ms (omega arith) (w .packet) (length (w .out))
-            (unshared-number (OneOf ms) (linkOf from (x .session)) (w .packet) (inl refl) (λ e. absurd (own-passed e)) (inr (inl refl)) (inr (inr (inl refl))) u);
-        unsuited = λ w u.
-            let ms : List ℕ = usbredir .unsuitedNumbers in
-            refused-by ms (omega arith) (w .packet) (length (w .out))
-            (unsuited-number (OneOf ms) (linkOf from (x .session)) (w .packet) (inl refl) (λ e. absurd (own-passed e)) (inr (inl refl)) (inr (inr (inl refl))) (inr (inr (inr (inl refl)))) (inr (inr (inr (inr (inl refl))))) u);
-      }
-
 -- ---- the theorem
 
-pub demand-3 : (from : Side) (x : State) → Starts from x → Demand3 usbredir (reader from) (writer from (x .session)) x
-demand-3 from x s =
-    demand3 usbredir laws (reader from) (reader-laws from) x
-    (record { sound = record { session = established from x s; room = s .room }; running = s .running; fresh = ap (λ (n : ℕ). take n (x .hold)) (s .nothing-held) })
-    (writer from (x .session)) (writer-laws from x s)
+-- for either direction and every state that `Starts` describes, demand 3 holds of the reader and the writer (`demand-3`)
+abbrev pub GateDemand3 : Type 0
+GateDemand3 =
+    (from : Side) (x : GateState) → Starts from x → Demand3 usbredir (reader from) (writer from (x .session)) x

@@ -5,8 +5,8 @@ use mathlib.Core.Bool.{Bool, true, false, cond, not, _&&_, _||_}
 use mathlib.Core.List.{List}
 use lib.ListN.{getD, set, replicate}
 use lib.Dec.{eqb}
-use Rattle.number.specs.Bits.{hasBit}
-use Rattle.header.specs.declared.Hello.the-variants.{Awaited}
+use Rattle.octets.specs.Bits.{hasBit}
+use Rattle.header.specs.declared.HelloState.the-variants.{Awaited}
 use Rattle.endpoint.specs.declared.Endpoint.{Endpoint}
 use Rattle.endpoint.specs.declared.RowOf.{RowOf}
 use Rattle.endpoint.specs.declared.RowOf.the-variants.{At, Malformed}
@@ -14,8 +14,8 @@ use Rattle.endpoint.specs.Endpoint.{rowOf}
 use Rattle.scan.specs.Scan.{anyAt, tabulated, putAt}
 use Rattle.device.specs.declared.Rows.{Rows}
 use Rattle.device.specs.declared.Scope.{Scope}
-use Rattle.device.specs.declared.Scope.the-variants.{Nowhere, Everywhere, OfInterface}
-use Rattle.device.specs.declared.Introduction.the-variants.{Nothing}
+use Rattle.device.specs.declared.Scope.the-variants.{NoRow, EveryRow, OfInterface}
+use Rattle.device.specs.declared.Introduction.the-variants.{Unintroduced}
 use Rattle.device.specs.declared.Head.{Head}
 
 -- ---- the types of an endpoint: "0 control, 1 iso, 2 bulk, 3 interrupt or 255 invalid"
@@ -67,6 +67,11 @@ rowIn d Malformed = closedRow invalid
 abbrev pub stateAt : Rows → Endpoint → RowState
 stateAt d e = rowIn d (rowOf e)
 
+-- r is the row that was found; a byte that is no address has none
+abbrev pub isRow : RowOf → ℕ → Bool
+isRow (At q) r = eqb (q .0) r
+isRow Malformed r = false
+
 -- ---- 28: "18, 19 (every mask bit)"
 
 -- a row of the mask has another type
@@ -103,19 +108,19 @@ replaced new d =
 
 -- "for rows other than 0 and 16 of that interface"
 abbrev pub touches : Scope → ℕ → ℕ → Bool
-touches Nowhere i interface = false
-touches Everywhere i interface = true
+touches NoRow i interface = false
+touches EveryRow i interface = true
 touches (OfInterface n) i interface = not (eqb i 0 || eqb i 16) && eqb interface n
 
 unfoldable pub closed : Rows → Scope → Rows
-closed d Nowhere = d
-closed d Everywhere = withStreams d (replicate 32 false)
+closed d NoRow = d
+closed d EveryRow = withStreams d (replicate 32 false)
 closed d (OfInterface n) = withStreams d (tabulated (λ (i : ℕ). rowAt d i .streaming && not (touches (OfInterface n) i (rowAt d i .interface))) 0 32)
 
 -- the row of an endpoint is one of them; a byte that is no address has no row of an interface
 abbrev pub touchedIn : Rows → Scope → RowOf → Bool
-touchedIn d Nowhere r = false
-touchedIn d Everywhere r = true
+touchedIn d NoRow r = false
+touchedIn d EveryRow r = true
 touchedIn d (OfInterface n) (At r) = touches (OfInterface n) (r .0) (rowAt d (r .0) .interface)
 touchedIn d (OfInterface n) Malformed = false
 
@@ -132,4 +137,4 @@ controlRows d = eqb (rowAt d 0 .ty) control && eqb (rowAt d 16 .ty) control
 -- no hello has passed, nothing is held; "Start: no device, no introduction, .."
 unfoldable pub startHead : Head
 startHead =
-    record { guest = Awaited; host = Awaited; stopped = false; held = record { guest = 0; host = 0 }; present = false; introduction = Nothing; owed = false }
+    record { guest = Awaited; host = Awaited; stopped = false; held = record { guest = 0; host = 0 }; present = false; introduction = Unintroduced; owed = false }

@@ -9,7 +9,7 @@ use endpoint::Row;
 use endpoint::RowOf;
 use endpoint::in_mask;
 use endpoint::row_of;
-use header::Hello;
+use header::HelloState;
 
 // The rows of the endpoints, a column for each thing that is kept of them: type and interface as the endpoint table gave them, and
 // whether the stream is open.
@@ -21,7 +21,7 @@ pub struct Rows {
 
 // How far a device is introduced: not, by its endpoints, by its endpoints and then its interfaces.
 pub enum Introduction {
-    Nothing,
+    Unintroduced,
     One,
     Two,
 }
@@ -35,8 +35,8 @@ pub struct Held {
 // What is small and changes often: both hellos, whether the session is stopped, what is held, whether the device is there, how far it is
 // introduced, and whether the ack of its last disconnect is owed.
 pub struct Head {
-    pub guest: Hello,
-    pub host: Hello,
+    pub guest: HelloState,
+    pub host: HelloState,
     pub stopped: bool,
     pub held: Held,
     pub present: bool,
@@ -46,8 +46,8 @@ pub struct Head {
 
 // The rows whose data requests and streams a packet ends.
 pub enum Scope {
-    Nowhere,
-    Everywhere,
+    NoRow,
+    EveryRow,
     OfInterface(u8),
 }
 
@@ -55,10 +55,10 @@ pub enum Scope {
 pub fn start_head() -> Head
     ensures { λ r. ⌜ r ≡ startHead ⌝ }
 {
-    let guest = Hello::Awaited;
-    let host = Hello::Awaited;
+    let guest = HelloState::Awaited;
+    let host = HelloState::Awaited;
     let held = Held { guest: 0, host: 0 };
-    let introduction = Introduction::Nothing;
+    let introduction = Introduction::Unintroduced;
     Head {
         guest,
         host,
@@ -180,8 +180,8 @@ fn is_touched(s: Scope, i: usize, interface: u8) -> bool
     ensures { λ b. ⌜ b ≡ touches s i interface ⌝ }
 {
     match s {
-        Scope::Nowhere => false,
-        Scope::Everywhere => true,
+        Scope::NoRow => false,
+        Scope::EveryRow => true,
         Scope::OfInterface(n) => (i != 0) & (i != 16) & (interface == n),
     }
 }
@@ -204,8 +204,8 @@ pub fn close(rows: Rows, s: Scope) -> Rows
     ensures { λ r. ⌜ r ≡ closed rows s ⌝ }
 {
     match s {
-        Scope::Nowhere => rows,
-        Scope::Everywhere => {
+        Scope::NoRow => rows,
+        Scope::EveryRow => {
             let mut out = rows;
             let streams: [bool; 32] = [false; 32];
             out.streams = streams;
@@ -220,8 +220,8 @@ pub fn touches_endpoint(interfaces: &[u8; 32], s: Scope, e: Endpoint) -> bool
     ensures { λ b. ⌜ ((d : Rows) → d .interfaces ≡ now (interfaces .entry) → b ≡ touched d s e) ⌝ }
 {
     match s {
-        Scope::Nowhere => false,
-        Scope::Everywhere => true,
+        Scope::NoRow => false,
+        Scope::EveryRow => true,
         Scope::OfInterface(_) => {
             let found = row_of(e);
             match found {

@@ -1,5 +1,4 @@
 pub mod Laid
 pub mod Outcome
 pub mod Body
-pub mod Last
 pub mod Accept

@@ -1,2 +1,1 @@
 pub mod Endpoint
-pub mod Laws

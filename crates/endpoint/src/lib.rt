@@ -1,8 +1,8 @@
 // Endpoint address bytes, rows of the endpoint table, and masks of rows.
 ghost use mathlib.Core.Path.{_≡_};
-ghost use Rattle.number.specs.Bits.{hasBit};
+ghost use Rattle.octets.specs.Bits.{hasBit};
 ghost use Rattle.endpoint.specs.Endpoint.{isAddress, isIn, rowOf, endpointOf};
-use number::has_bit;
+use octets::has_bit;
 
 // An endpoint's address as on the wire: the number in bits 0 to 3, IN in bit 7.
 pub struct Endpoint(pub u8);

@@ -8,14 +8,15 @@ use mathlib.Core.Option.{Option, none, some}
 use mathlib.Core.Path.{_≡_}
 use lib.ListN.{getD}
 use lib.Dec.{eqb, leb}
-use Rattle.number.specs.Little.{le}
+use Rattle.octets.specs.Little.{le}
 use Rattle.endpoint.specs.declared.Endpoint.{Endpoint}
 use Rattle.endpoint.specs.Endpoint.{isIn}
 use Rattle.header.specs.declared.Side.{Side}
+use Rattle.header.specs.Link.{isGuest}
 use Rattle.kinds.specs.Table.{Field}
 use Rattle.kinds.specs.Content.{Value, Content, named}
 use Rattle.kinds.specs.Codec.{layout}
-use Rattle.kinds.specs.Number.{isGuest, dataLength}
+use Rattle.kinds.specs.Number.{dataLength}
 use Rattle.packet.specs.declared.Packet.{Packet}
 use Rattle.packet.specs.Packet.{contentOf}
 use Rattle.packet.specs.Rows.{column}
@@ -23,7 +24,7 @@ use Rattle.device.specs.declared.Rows.{Rows}
 use Rattle.device.specs.Device.{startRows}
 use Rattle.scan.specs.Scan.{tabulated}
 use Rattle.requests.specs.declared.Request.{Request}
-use Rattle.requests.specs.declared.Answers.{Answers}
+use Rattle.requests.specs.declared.Answerable.{Answerable}
 use Rattle.events.specs.declared.Typed.{Typed}
 use Rattle.events.specs.declared.Typed.the-variants.{Untyped, OfEndpoint, OfMask}
 use Rattle.events.specs.declared.Reply.{Reply}
@@ -38,7 +39,7 @@ pub record Event : Type 0 where
   -- the request that it makes or answers, as it tells it
   pub request : Request
   -- the requests that it can be a reply to
-  pub answers : Answers
+  pub answers : Answerable
   pub typed : Typed
   pub status : ℕ
   -- a hello's first capability word

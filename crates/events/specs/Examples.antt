@@ -7,7 +7,7 @@ use mathlib.Core.List.{List, [], _∷_}
 use mathlib.Core.Option.{Option, none, some}
 use lib.ListN.{length}
 use lib.Dec.{eqb, leb, leb·zero, leb·suc-suc}
-use Rattle.number.specs.Little.{le}
+use Rattle.octets.specs.Little.{le}
 use Rattle.header.specs.declared.Side.{Side}
 use Rattle.header.specs.declared.Side.the-variants.{Guest, Host}
 use Rattle.kinds.specs.Table.{words, Kind, kinds}

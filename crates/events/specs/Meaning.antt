@@ -5,8 +5,8 @@ use mathlib.Core.Bool.{Bool, true, cond, not, _&&_}
 use mathlib.Core.List.{List, [], _∷_}
 use mathlib.Core.Option.{Option, none, some}
 use lib.Dec.{eqb}
+use Rattle.header.specs.Link.{isGuest}
 use Rattle.header.specs.declared.Side.{Side}
-use Rattle.kinds.specs.Number.{isGuest}
 use Rattle.device.specs.Device.{control, iso, bulk, interrupt}
 
 -- what a packet is to the session; two classes of requests and two of replies differ in what they do to a stream: a start opens one, and a

@@ -12,12 +12,12 @@ use native.Mathlib.Omega.{arith}
 use lib.Dec.{eqb, leb}
 use borrow.Author.Tests.{leb-true, eqb-true, eqb-false}
 use borrow.Table.Steps.{cases}
-use Rattle.number.specs.Logic.{and-parts, implied}
+use Rattle.octets.proofs.Logic.{and-parts, implied}
 use Rattle.endpoint.specs.declared.Endpoint.{Endpoint}
 use Rattle.header.specs.declared.Side.{Side}
 use Rattle.header.specs.declared.Side.the-variants.{Guest, Host}
+use Rattle.header.specs.Link.{isGuest}
 use Rattle.kinds.specs.Content.{Content}
-use Rattle.kinds.specs.Number.{isGuest}
 use Rattle.events.specs.declared.Typed.{Typed}
 use Rattle.events.specs.declared.Typed.the-variants.{Untyped, OfEndpoint, OfMask}
 use Rattle.events.specs.Meaning.{Class, Cancel, PlainRequest, StreamData, Meaning, plain, Line, meanings, admits, lookUp}

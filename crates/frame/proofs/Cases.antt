@@ -13,14 +13,14 @@ use lib.ListN.{length, getD, take, length-append}
 use lib.Seq.{sets, getD-append-add}
 use lib.Dec.{eqb}
 use borrow.Author.Tests.{lt-ltb, le-ltb, ne-eqb}
-use Rattle.number.specs.Little.{le}
-use Rattle.number.specs.Laws.{le-shift}
+use Rattle.octets.specs.Little.{le}
+use Rattle.octets.proofs.Integers.{le-shift}
 use Rattle.header.specs.declared.Link.{Link}
 use Rattle.header.specs.Link.{idWidth}
-use Rattle.header.specs.Laws.{id-widths}
+use Rattle.header.proofs.Widths.{id-widths}
 use Rattle.header.specs.Header.{kindOf, lengthOf, headerSize, headerNumber}
 use Rattle.frame.specs.Cut.{cutOf}
-use Rattle.frame.specs.declared.Cut.the-variants.{More, Refused, Whole}
+use Rattle.frame.specs.declared.Cut.the-variants.{More, BadHeader, WholePacket}
 use Rattle.frame.specs.Frame.{headSize, headNumber, cutFor, completed}
 
 module _ (l : Link) (a b : List ℕ) (kind len w : ℕ) (ek : kind ≡ kindOf (a ++ b)) (el : len ≡ lengthOf (a ++ b)) (ew : w ≡ idWidth l kind) where
@@ -41,12 +41,12 @@ module _ (l : Link) (a b : List ℕ) (kind len w : ℕ) (ek : kind ≡ kindOf (a
     header : headSize l (a ++ b) ≤ length (a ++ b)
     header = omega (arith, size-is, length-append a b)
 
-    pub cut-refused : (n ≡ 0 → ⊥) → Refused n (8 + w) ≡ cutFor l (a ++ b)
+    pub cut-refused : (n ≡ 0 → ⊥) → BadHeader n (8 + w) ≡ cutFor l (a ++ b)
     unfolding cutFor cutOf
     cut-refused z =
         let t = le-ltb (length (a ++ b)) (headSize l (a ++ b)) header in
         let q : eqb (headNumber l (a ++ b)) 0 ≡ false = ne-eqb (headNumber l (a ++ b)) 0 (λ e. z (sym (number-is n en) ∙ e)) in
-        rw (t, q) (ap₂ Refused (sym (number-is n en)) (sym size-is))
+        rw (t, q) (ap₂ BadHeader (sym (number-is n en)) (sym size-is))
 
     module _ (z : n ≡ 0) where
       zero-is : eqb (headNumber l (a ++ b)) 0 ≡ true
@@ -62,12 +62,12 @@ module _ (l : Link) (a b : List ℕ) (kind len w : ℕ) (ek : kind ≡ kindOf (a
           let k : length (a ++ b) < headSize l (a ++ b) + lengthOf (a ++ b) = omega (arith, whole-is, length-append a b) in
           rw (t, zero-is, lt-ltb (length (a ++ b)) (headSize l (a ++ b) + lengthOf (a ++ b)) k)
 
-      pub cut-full : 8 + w + len - length a ≤ length b → Whole kind (8 + w) (8 + w + len) ≡ cutFor l (a ++ b)
+      pub cut-full : 8 + w + len - length a ≤ length b → WholePacket kind (8 + w) (8 + w + len) ≡ cutFor l (a ++ b)
       unfolding cutFor cutOf
       cut-full g =
           let t = le-ltb (length (a ++ b)) (headSize l (a ++ b)) header in
           let k : headSize l (a ++ b) + lengthOf (a ++ b) ≤ length (a ++ b) = omega (arith, whole-is, length-append a b) in
-          rw (t, zero-is, le-ltb (length (a ++ b)) (headSize l (a ++ b) + lengthOf (a ++ b)) k) (λ i. Whole (ek i) (sym size-is i) (sym whole-is i))
+          rw (t, zero-is, le-ltb (length (a ++ b)) (headSize l (a ++ b) + lengthOf (a ++ b)) k) (λ i. WholePacket (ek i) (sym size-is i) (sym whole-is i))
 
 -- past a, a number of b
 pub le-beyond : (n : ℕ) (a b : List ℕ) (at : ℕ) → length a ≤ at → le n b (at - length a) ≡ le n (a ++ b) at

@@ -3,27 +3,27 @@ ghost use mathlib.Core.Path.{_≡_};
 ghost use mathlib.Core.List.{_++_};
 ghost use Prim.Native.Nat.{_-_, _<_, _≤_};
 ghost use lib.ListN.{getD};
-ghost use Rattle.number.specs.Little.{le};
-ghost use Rattle.frame.specs.Frame.{cutFor, endsWithin, completed, placeFor, bytesAt};
+ghost use Rattle.octets.specs.Little.{le};
+ghost use Rattle.frame.specs.Frame.{cutFor, endsWithin, completed, locationFor, bytesAt};
 use header::Link;
 use header::header_number;
 use header::id_width;
-use number::get32;
-use number::lay;
-use number::part;
-use number::saturating_sub;
-use number::wide;
+use octets::get32;
+use octets::lay;
+use octets::part;
+use octets::saturating_sub;
+use octets::wide;
 
 // What bytes are, counted from a packet's first byte: not a whole packet yet; a header that is refused, with its number and its
 // size; or a whole packet, with its kind, the size of its header and its own.
 pub enum Cut {
     More,
-    Refused(u8, usize),
-    Whole(u32, usize, usize),
+    BadHeader(u8, usize),
+    WholePacket(u32, usize, usize),
 }
 
 // Where a packet's bytes lie: at the front of the piece or of the holding buffer.
-pub enum Place {
+pub enum Location {
     Nowhere,
     Piece,
     Buffer,
@@ -70,13 +70,13 @@ pub fn cut_of(l: Link, held: &[u8], piece: &[u8]) -> Cut
     }
     let number = header_number(l, kind, length);
     if number != 0 {
-        return Cut::Refused(number, header);
+        return Cut::BadHeader(number, header);
     }
     let size = header + length;
     if piece.len() < saturating_sub(size, held.len()) {
         return Cut::More;
     }
-    Cut::Whole(kind, header, size)
+    Cut::WholePacket(kind, header, size)
 }
 
 // The packet, or the header that is refused, is whole within the first n bytes.
@@ -85,19 +85,19 @@ pub fn ends_within(c: Cut, n: usize) -> bool
 {
     match c {
         Cut::More => false,
-        Cut::Refused(_, size) => size <= n,
-        Cut::Whole(_, _, size) => size <= n,
+        Cut::BadHeader(_, size) => size <= n,
+        Cut::WholePacket(_, _, size) => size <= n,
     }
 }
 
 // Where a packet lies of which so many bytes were held.
-pub fn place_of(held: usize) -> Place
-    ensures { λ r. ⌜ r ≡ placeFor held ⌝ }
+pub fn location_of(held: usize) -> Location
+    ensures { λ r. ⌜ r ≡ locationFor held ⌝ }
 {
     if held == 0 {
-        Place::Piece
+        Location::Piece
     } else {
-        Place::Buffer
+        Location::Buffer
     }
 }
 
@@ -113,12 +113,12 @@ pub fn complete(hold: &mut [u8], held: usize, piece: &[u8], size: usize) -> usiz
 }
 
 // The first `size` bytes of the piece or of the buffer, wherever they lie.
-pub fn lend<'a>(place: Place, size: usize, piece: &'a [u8], hold: &'a [u8]) -> &'a [u8]
-    ensures { λ r. ⌜ now r ≡ bytesAt place size (now (piece .entry)) (now (hold .entry)) ⌝ }
+pub fn lend<'a>(location: Location, size: usize, piece: &'a [u8], hold: &'a [u8]) -> &'a [u8]
+    ensures { λ r. ⌜ now r ≡ bytesAt location size (now (piece .entry)) (now (hold .entry)) ⌝ }
 {
-    match place {
-        Place::Nowhere => part(piece, 0, 0),
-        Place::Piece => part(piece, 0, size),
-        Place::Buffer => part(hold, 0, size),
+    match location {
+        Location::Nowhere => part(piece, 0, 0),
+        Location::Piece => part(piece, 0, size),
+        Location::Buffer => part(hold, 0, size),
     }
 }

@@ -15,13 +15,14 @@ use Rattle.session.specs.declared.Session.{Session}
 use Rattle.session.specs.Session.{linkTo, unfit}
 use Rattle.gate.specs.Offer.{isWaiting, heldWhole, barred}
 use Rattle.gate.specs.Write.{shut}
+use Rattle.header.specs.Header.{holdSize}
 
 module _ (s : Session) (from : Side) {h : Head} (eh : s .head ≡ h) {u : Bool} (eu : u ≡ unfit (record { head = h; rows = s .rows; requests = s .requests })) where
   same-unfit : u ≡ unfit s
   same-unfit = eu ∙ ap (λ (x : Head). unfit (record { head = x; rows = s .rows; requests = s .requests })) (sym eh)
 
   pub barred-by-tests : (hold : List ℕ) {l : Link} {room : ℕ} {whole : Bool} → l ≡ linkTo from h → room ≡ length hold → whole ≡ heldWhole from s hold
-      → cond (ltb room 32784) 41 (cond (u || whole) 43 (cond (h .stopped) 3 (cond (isWaiting l) 2 0))) ≡ barred from s hold
+      → cond (ltb room holdSize) 41 (cond (u || whole) 43 (cond (h .stopped) 3 (cond (isWaiting l) 2 0))) ≡ barred from s hold
   unfolding barred
   barred-by-tests hold el er ew = rw (el, er, ew, same-unfit, ← eh)
 

@@ -12,19 +12,21 @@ use lib.Seq.{sets}
 use Rattle.header.specs.declared.Side.{Side}
 use Rattle.header.specs.declared.Link.{Link}
 use Rattle.device.specs.declared.Head.{Head}
-use Rattle.frame.specs.declared.Cut.{Cut as Found}
-use Rattle.frame.specs.declared.Cut.the-variants.{More, Refused, Whole}
-use Rattle.frame.specs.declared.Place.{Place}
-use Rattle.frame.specs.declared.Place.the-variants.{Nowhere}
-use Rattle.frame.specs.Frame.{cutFor, endsWithin, completed, placeFor}
-use Rattle.frame.specs.Laws.{Cuts, cut-more, cut-bad, cut-whole}
+use Rattle.frame.specs.declared.Cut.{Cut as CutTold}
+use Rattle.frame.specs.declared.Cut.the-variants.{More, BadHeader, WholePacket}
+use Rattle.frame.specs.declared.Location.{Location}
+use Rattle.frame.specs.declared.Location.the-variants.{Nowhere}
+use Rattle.frame.specs.Frame.{cutFor, endsWithin, completed, locationFor}
+use Rattle.frame.specs.Frame.{Cuts}
+use Rattle.frame.proofs.Framed.{cut-more, cut-bad, cut-whole}
 use Rattle.session.specs.declared.Session.{Session}
-use Rattle.session.specs.Session.{linkTo, linkOf, heldIn}
+use Rattle.session.specs.Session.{maxHeld, linkTo, linkOf, heldIn}
 use Rattle.gate.specs.declared.Decided.{Decided}
 use Rattle.gate.specs.Offer.{heldBytes, heldWhole, barred}
 use Rattle.gate.specs.Decide.{endedWith, Lends, Decides}
-use Rattle.gate.specs.Laws.{Ready, ready, held-few, held-whole, more-few}
-use Rattle.gate.specs.Called.{barred-call, more-call, header-call}
+use Rattle.gate.specs.Ready.{Ready}
+use Rattle.gate.proofs.Ready.{ready, held-few, held-whole, more-few}
+use Rattle.gate.proofs.Outcomes.{barred-call, more-call, header-call}
 use Rattle.gate.proofs.Taken.{same-link, same-held}
 
 -- a session that has the head and the columns that are lent
@@ -37,7 +39,7 @@ lending h types streams used live kinds ids =
     }
 
 module _ (from : Side) (s : Session) (hold piece : List ℕ) {h : Head} {l : Link} {held : ℕ} (eh : s .head ≡ h) (el : l ≡ linkTo from h) (ed : held ≡ heldIn from h)
-    {begun : List ℕ} (eb : begun ≡ take held hold) {c : Found} (ec : c ≡ cutFor l (begun ++ piece)) where
+    {begun : List ℕ} (eb : begun ≡ take held hold) {c : CutTold} (ec : c ≡ cutFor l (begun ++ piece)) where
   begun-is : begun ≡ heldBytes from s hold
   begun-is = eb ∙ ap (λ (n : ℕ). take n hold) (same-held from s hold piece eh el ed)
 
@@ -55,9 +57,9 @@ module _ (from : Side) (s : Session) (hold piece : List ℕ) {h : Head} {l : Lin
       pub is-ready : Ready from s hold
       is-ready = ready from s hold (sym en ∙ z)
 
-      pub keeps : c ≡ More → held + length piece ≤ 32783
+      pub keeps : c ≡ More → held + length piece ≤ maxHeld
       keeps e =
-          let f : heldIn from (s .head) + length piece ≤ 32783 =
+          let f : heldIn from (s .head) + length piece ≤ maxHeld =
           more-few (linkOf from s) hold piece (heldIn from (s .head)) (is-ready .room) (held-few from s (is-ready .fit)) (cut-more (linkOf from s) (heldBytes from s hold ++ piece) (sym cut-is ∙ e)) in
           rw (same-held from s hold piece eh el ed) f
 
@@ -66,11 +68,11 @@ module _ (from : Side) (s : Session) (hold piece : List ℕ) {h : Head} {l : Lin
       more-decides e ea q =
           rw (q, ea, same-held from s hold piece eh el ed, ← eh) (more-call from s hold piece is-ready (cut-more (linkOf from s) (heldBytes from s hold ++ piece) (sym cut-is ∙ e)))
 
-      pub header-decides : {m size : ℕ} → c ≡ Refused m size → {d : Decided} {taken : ℕ} {place : Place} {after : List ℕ} → taken ≡ size - held → place ≡ placeFor held
-          → after ≡ completed hold held piece size → d ≡ endedWith m taken place size 0 true → Decides from s d hold piece after
+      pub header-decides : {m size : ℕ} → c ≡ BadHeader m size → {d : Decided} {taken : ℕ} {location : Location} {after : List ℕ} → taken ≡ size - held → location ≡ locationFor held
+          → after ≡ completed hold held piece size → d ≡ endedWith m taken location size 0 true → Decides from s d hold piece after
       header-decides {m} {size} e et ep ea q =
           let b = cut-bad (linkOf from s) (heldBytes from s hold ++ piece) (sym cut-is ∙ e) in
           rw (q, et, ep, ea, same-held from s hold piece eh el ed) (header-call from s hold piece is-ready m (b .0) size (b .1))
 
-  pub cuts : {kind head size : ℕ} → c ≡ Whole kind head size → Cuts l (take held hold ++ piece) kind head size
+  pub cuts : {kind head size : ℕ} → c ≡ WholePacket kind head size → Cuts l (take held hold ++ piece) kind head size
   cuts e = cut-whole l (take held hold ++ piece) (ap (λ (b : List ℕ). cutFor l (b ++ piece)) (sym eb) ∙ sym ec ∙ e)

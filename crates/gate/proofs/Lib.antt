@@ -1,3 +1,7 @@
+pub mod Ready
+pub mod Judge
+pub mod Outcomes
+pub mod Settled
 mod Barred
 mod Deciding
 mod Taken

@@ -18,34 +18,34 @@ use Rattle.header.specs.Link.{sharedSet}
 use Rattle.kinds.specs.Content.{Content}
 use Rattle.packet.specs.declared.Part.{Part}
 use Rattle.packet.specs.declared.Packet.{Packet}
-use Rattle.packet.specs.Packet.{contentOf, inPart, partNamed, isHello}
-use Rattle.packet.specs.Same.{shown-same}
+use Rattle.packet.specs.Packet.{contentOf, inPart, restOf, isHello}
+use Rattle.packet.proofs.Same.{shown-same}
 use Rattle.encoder.specs.declared.Written.{Written}
 use Rattle.encoder.specs.Written.{Writes}
 use Rattle.session.specs.declared.Session.{Session}
 use Rattle.session.specs.Session.{linkOf, unfit}
 use Rattle.gate.specs.declared.Handed.{Handed}
-use Rattle.gate.specs.declared.Handed.the-variants.{Nothing, Passed}
+use Rattle.gate.specs.declared.Handed.the-variants.{NoPacket, OnePacket}
 use Rattle.gate.specs.Offer.{isWaiting, bodyIn, dataIn}
 use Rattle.gate.specs.Write.{shut, writeBy, output, outputSize, WritesBy}
 
 -- ---- what is handed out, lent
 
 module _ {handed : Handed} (bytes : List ℕ) where
-  pub body-none : handed ≡ Nothing → [] ≡ bodyIn handed bytes
+  pub body-none : handed ≡ NoPacket → [] ≡ bodyIn handed bytes
   body-none e = ap (λ (h : Handed). bodyIn h bytes) (sym e)
 
-  pub body-passed : {h : Header} {p : Packet} {lent r : List ℕ} → handed ≡ Passed h p → lent ≡ bytes → r ≡ slice (h .size) (length lent) lent → r ≡ bodyIn handed bytes
+  pub body-passed : {h : Header} {p : Packet} {lent r : List ℕ} → handed ≡ OnePacket h p → lent ≡ bytes → r ≡ slice (h .size) (length lent) lent → r ≡ bodyIn handed bytes
   body-passed {h} {lent = lent} e el er =
       er ∙ ap (drop (h .size)) (take-length lent ∙ el) ∙ ap (λ (h : Handed). bodyIn h bytes) (sym e)
 
-  pub data-none : {body : List ℕ} → handed ≡ Nothing → body ≡ bodyIn handed bytes → body ≡ dataIn handed bytes
+  pub data-none : {body : List ℕ} → handed ≡ NoPacket → body ≡ bodyIn handed bytes → body ≡ dataIn handed bytes
   data-none e eb = eb ∙ ap (λ (h : Handed). bodyIn h bytes) e ∙ ap (λ (h : Handed). dataIn h bytes) (sym e)
 
-  pub data-passed : {h : Header} {p : Packet} {part : Part} {body r : List ℕ} → handed ≡ Passed h p → body ≡ bodyIn handed bytes → part ≡ partNamed p → r ≡ inPart part body
+  pub data-passed : {h : Header} {p : Packet} {part : Part} {body r : List ℕ} → handed ≡ OnePacket h p → body ≡ bodyIn handed bytes → part ≡ restOf p → r ≡ inPart part body
       → r ≡ dataIn handed bytes
   data-passed {h} {p} {part} {body} e eb ep er =
-      er ∙ ap (λ (q : Part). inPart q body) ep ∙ ap (inPart (partNamed p)) (eb ∙ ap (λ (h : Handed). bodyIn h bytes) e) ∙ ap (λ (h : Handed). dataIn h bytes) (sym e)
+      er ∙ ap (λ (q : Part). inPart q body) ep ∙ ap (inPart (restOf p)) (eb ∙ ap (λ (h : Handed). bodyIn h bytes) e) ∙ ap (λ (h : Handed). dataIn h bytes) (sym e)
 
 -- ---- a writer call
 

@@ -13,7 +13,7 @@ use Rattle.kinds.specs.Codec.{decode, readNumber}
 use Rattle.packet.specs.declared.Packet.{Packet}
 use Rattle.packet.specs.Packet.{contentOf}
 use Rattle.decoder.specs.Reading.{readOf}
-use Rattle.frame.specs.declared.Place.{Place}
+use Rattle.frame.specs.declared.Location.{Location}
 use Rattle.frame.specs.Cut.{Cut, more, bad, whole}
 use Rattle.frame.specs.Frame.{cutAt, bytesAt}
 use Rattle.device.specs.declared.Head.{Head}
@@ -23,9 +23,9 @@ use Rattle.requests.specs.declared.Slot.{Slot}
 use Rattle.requests.specs.Requests.{freeSlot}
 use Rattle.events.specs.Event.{eventOf, caseOf}
 use Rattle.checks.specs.declared.Change.{Change}
-use Rattle.checks.specs.declared.Change.the-variants.{Nothing as NoChange}
+use Rattle.checks.specs.declared.Change.the-variants.{NoChange}
 use Rattle.checks.specs.declared.Ruling.{Ruling}
-use Rattle.checks.specs.declared.Ruling.the-variants.{Refused, Passed as Passes, Pending}
+use Rattle.checks.specs.declared.Ruling.the-variants.{Denied, Granted, Pending}
 use Rattle.checks.specs.Ruled.{settledIn, awaited, ruled}
 use Rattle.session.specs.declared.Session.{Session}
 use Rattle.session.specs.Session.{linkOf, heldTo}
@@ -33,68 +33,68 @@ use Rattle.session.specs.Step.{applied}
 use Rattle.gate.specs.declared.Answer.{Answer}
 use Rattle.gate.specs.declared.Decided.{Decided}
 use Rattle.gate.specs.declared.Handed.{Handed}
-use Rattle.gate.specs.declared.Handed.the-variants.{Nothing, Passed}
+use Rattle.gate.specs.declared.Handed.the-variants.{NoPacket, OnePacket}
 use Rattle.gate.specs.Verdict.{handedAs}
 use Rattle.gate.specs.Offer.{Outcome, heldBytes, barred, offerOf, outcome, bodyIn}
 
 -- ---- a decision and the slot that it waits for
 
 -- a call by which no packet passes
-abbrev pub endedWith : ℕ → ℕ → Place → ℕ → ℕ → Bool → Decided
-endedWith n taken place size held stopped =
-    record { answer = record { number = n; taken = taken; place = place; size = size; handed = Nothing }; held = held; stopped = stopped; ruling = Passes NoChange }
+abbrev pub endedWith : ℕ → ℕ → Location → ℕ → ℕ → Bool → Decided
+endedWith n taken location size held stopped =
+    record { answer = record { number = n; taken = taken; location = location; size = size; handed = NoPacket }; held = held; stopped = stopped; ruling = Granted NoChange }
 
 -- a call by which a packet passes, or waits for a slot
-abbrev pub passedWith : ℕ → Place → ℕ → Header → Packet → Bool → Ruling → Decided
-passedWith taken place size h p stopped u =
-    record { answer = record { number = 0; taken = taken; place = place; size = size; handed = Passed h p }; held = 0; stopped = stopped; ruling = u }
+abbrev pub passedWith : ℕ → Location → ℕ → Header → Packet → Bool → Ruling → Decided
+passedWith taken location size h p stopped u =
+    record { answer = record { number = 0; taken = taken; location = location; size = size; handed = OnePacket h p }; held = 0; stopped = stopped; ruling = u }
 
 -- an answer by which a packet is refused
 abbrev pub refusedWith : Answer → ℕ → Answer
-refusedWith a n = record { number = n; taken = a .taken; place = a .place; size = a .size; handed = Nothing }
+refusedWith a n = record { number = n; taken = a .taken; location = a .location; size = a .size; handed = NoPacket }
 
 abbrev pub concludedBy : Decided → Ruling → Decided
-concludedBy d (Refused n) = record { answer = refusedWith (d .answer) n; held = d .held; stopped = d .stopped; ruling = Passes NoChange }
-concludedBy d (Passes c) = record { answer = d .answer; held = d .held; stopped = d .stopped; ruling = Passes c }
-concludedBy d (Pending i x typed opens scope) = record { answer = d .answer; held = d .held; stopped = d .stopped; ruling = Passes NoChange }
+concludedBy d (Denied n) = record { answer = refusedWith (d .answer) n; held = d .held; stopped = d .stopped; ruling = Granted NoChange }
+concludedBy d (Granted c) = record { answer = d .answer; held = d .held; stopped = d .stopped; ruling = Granted c }
+concludedBy d (Pending i x typed opens scope) = record { answer = d .answer; held = d .held; stopped = d .stopped; ruling = Granted NoChange }
 
 unfoldable pub concluded : Decided → Slot → Decided
 concluded d slot = concludedBy d (settledIn (d .ruling) slot)
 
 -- what it does, once it waits for none
 abbrev pub changeIn : Ruling → Change
-changeIn (Refused n) = NoChange
-changeIn (Passes c) = c
+changeIn (Denied n) = NoChange
+changeIn (Granted c) = c
 changeIn (Pending i x typed opens scope) = NoChange
 
 -- ---- the call that a decision comes to
 
 -- the rows that a packet which is handed out announces, by its body
-abbrev pub rowsTold : Side → ℕ → ℕ → Handed → List ℕ → Rows
-rowsTold from caps id Nothing body = startRows
-rowsTold from caps id (Passed h p) body = eventOf from (contentOf caps id p body) .rows
+abbrev pub rowsHanded : Side → ℕ → ℕ → Handed → List ℕ → Rows
+rowsHanded from caps id NoPacket body = startRows
+rowsHanded from caps id (OnePacket h p) body = eventOf from (contentOf caps id p body) .rows
 
 abbrev pub idIn : Handed → ℕ
-idIn Nothing = 0
-idIn (Passed h p) = h .id
+idIn NoPacket = 0
+idIn (OnePacket h p) = h .id
 
 -- and by its bytes
 abbrev pub rowsIn : Side → Session → Handed → List ℕ → Rows
-rowsIn from s handed bytes = rowsTold from (sharedSet (linkOf from s)) (idIn handed) handed (bodyIn handed bytes)
+rowsIn from s handed bytes = rowsHanded from (sharedSet (linkOf from s)) (idIn handed) handed (bodyIn handed bytes)
 
 abbrev pub sessionAfter : Side → Session → Decided → Rows → Session
 sessionAfter from s d new = applied (record { head = heldTo from (d .held) (d .stopped) (s .head); rows = s .rows; requests = s .requests }) from (changeIn (d .ruling)) new
 
-unfoldable pub called : Side → Session → Decided → List ℕ → List ℕ → Outcome
-called from s d piece hold =
-    outcome (linkOf from s) (record { session = sessionAfter from s d (rowsIn from s (d .answer .handed) (bytesAt (d .answer .place) (d .answer .size) piece hold)); answer = d .answer }) piece hold
+unfoldable pub outcomeBy : Side → Session → Decided → List ℕ → List ℕ → Outcome
+outcomeBy from s d piece hold =
+    outcome (linkOf from s) (record { session = sessionAfter from s d (rowsIn from s (d .answer .handed) (bytesAt (d .answer .location) (d .answer .size) piece hold)); answer = d .answer }) piece hold
 
 -- ---- the ruling of a call
 
 -- a refusal is answered at once, and nothing is left to do
 abbrev pub unrefused : Ruling → Ruling
-unrefused (Refused n) = Passes NoChange
-unrefused (Passes c) = Passes c
+unrefused (Denied n) = Granted NoChange
+unrefused (Granted c) = Granted c
 unrefused (Pending i x typed opens scope) = Pending i x typed opens scope
 
 -- a whole packet that the wire checks let through is ruled on by its case
@@ -102,22 +102,22 @@ abbrev pub packetRuling : Side → Session → List ℕ → Ruling
 packetRuling from s bytes =
     cond (eqb (readNumber (linkOf from s) bytes) 0)
     (unrefused (ruled (s .head) (s .rows) (s .requests) (caseOf (eventOf from (decode (linkOf from s) bytes)))))
-    (Passes NoChange)
+    (Granted NoChange)
 
 abbrev pub rulingByCut : Side → Session → List ℕ → Cut → Ruling
-rulingByCut from s bytes more = Passes NoChange
-rulingByCut from s bytes (bad n) = Passes NoChange
+rulingByCut from s bytes more = Granted NoChange
+rulingByCut from s bytes (bad n) = Granted NoChange
 rulingByCut from s bytes (whole n) = packetRuling from s (take n bytes)
 
 unfoldable pub rulingAt : Side → Session → List ℕ → List ℕ → Ruling
 rulingAt from s hold piece =
     cond (eqb (barred from s hold) 0)
     (rulingByCut from s (heldBytes from s hold ++ piece) (cutAt (linkOf from s) (heldBytes from s hold ++ piece)))
-    (Passes NoChange)
+    (Granted NoChange)
 
 abbrev pub waits : Ruling → Bool
-waits (Refused n) = false
-waits (Passes c) = false
+waits (Denied n) = false
+waits (Granted c) = false
 waits (Pending i x typed opens scope) = true
 
 -- ---- what a decision is
@@ -135,11 +135,11 @@ pub record Lends (s : Session) (h : Head) (types : List ℕ) (streams : List Boo
 -- the answer is that of a packet that passes: what is handed out is its reading
 pub record Reads (from : Side) (s : Session) (a : Answer) (piece after : List ℕ) : Type 0 where
   pub number : a .number ≡ 0
-  pub handed : handedAs (linkOf from s) (bytesAt (a .place) (a .size) piece after) (a .handed) ≡ readOf (linkOf from s) (bytesAt (a .place) (a .size) piece after) .handed
+  pub handed : handedAs (linkOf from s) (bytesAt (a .location) (a .size) piece after) (a .handed) ≡ readOf (linkOf from s) (bytesAt (a .location) (a .size) piece after) .handed
 
 -- for every session that has these: with the slot of the place that it waits for, the decision comes to the call's outcome; its ruling is the call's; and
 -- where it waits, its answer is that of a packet that passes
 pub record Decides (from : Side) (s : Session) (d : Decided) (hold piece after : List ℕ) : Type 0 where
-  pub comes : called from s (concluded d (getD (s .requests .slots) (awaited (d .ruling)) freeSlot)) piece after ≡ offerOf from s hold piece
+  pub comes : outcomeBy from s (concluded d (getD (s .requests .slots) (awaited (d .ruling)) freeSlot)) piece after ≡ offerOf from s hold piece
   pub ruling : d .ruling ≡ rulingAt from s hold piece
   pub told : waits (d .ruling) ≡ true → Reads from s (d .answer) piece after

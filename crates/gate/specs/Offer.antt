@@ -10,18 +10,19 @@ use lib.Dec.{eqb, ltb}
 use Rattle.header.specs.declared.Side.{Side}
 use Rattle.header.specs.declared.Link.{Link}
 use Rattle.header.specs.Link.{passed, own}
-use Rattle.packet.specs.Packet.{inPart, partNamed}
+use Rattle.packet.specs.Packet.{inPart, restOf}
 use Rattle.decoder.specs.Reading.{PacketTold}
 use Rattle.session.specs.declared.Session.{Session}
 use Rattle.session.specs.Session.{linkOf, unfit}
 use Rattle.frame.specs.Cut.{Cut, more, bad, whole}
-use Rattle.frame.specs.declared.Place.{Place}
-use Rattle.frame.specs.declared.Place.the-variants.{Nowhere}
-use Rattle.frame.specs.Frame.{headSize, cutAt, isMore, completed, placeFor, bytesAt}
+use Rattle.frame.specs.declared.Location.{Location}
+use Rattle.frame.specs.declared.Location.the-variants.{Nowhere}
+use Rattle.frame.specs.Frame.{headSize, cutAt, isMore, completed, locationFor, bytesAt}
 use Rattle.gate.specs.declared.Handed.{Handed}
-use Rattle.gate.specs.declared.Handed.the-variants.{Nothing, Passed}
+use Rattle.gate.specs.declared.Handed.the-variants.{NoPacket, OnePacket}
 use Rattle.gate.specs.declared.Offered.{Offered}
 use Rattle.gate.specs.Verdict.{heldOf, heldAs, stoppedNow, VerdictTold, verdictOf, handedAs}
+use Rattle.header.specs.Header.{holdSize}
 
 -- ---- the held bytes of a direction: "Bytes of an unfinished packet are kept at its front"
 
@@ -41,7 +42,7 @@ heldWhole from s hold = not (isMore (cutAt (linkOf from s) (heldBytes from s hol
 -- "Order: 41, 3, 2, then 1 for an incomplete packet, with 43 right after 41"; 0 where the call can go on
 unfoldable pub barred : Side → Session → List ℕ → ℕ
 barred from s hold =
-    cond (ltb (length hold) 32784) 41
+    cond (ltb (length hold) holdSize) 41
     (cond (unfit s || heldWhole from s hold) 43
     (cond (s .head .stopped) 3
     (cond (isWaiting (linkOf from s)) 2 0)))
@@ -53,7 +54,7 @@ pub record Outcome : Type 0 where
   pub number : ℕ
   pub taken : ℕ
   -- where the packet or the refused header lies, and its size
-  pub place : Place
+  pub location : Location
   pub size : ℕ
   -- at 0, the header, the content and the part of the packet
   pub handed : Option PacketTold
@@ -61,7 +62,7 @@ pub record Outcome : Type 0 where
 
 -- "takes nothing"; "nothing taken or changed"
 abbrev pub unmoved : Session → List ℕ → ℕ → Outcome
-unmoved s hold n = record { session = s; number = n; taken = 0; place = Nowhere; size = 0; handed = none; hold = hold }
+unmoved s hold n = record { session = s; number = n; taken = 0; location = Nowhere; size = 0; handed = none; hold = hold }
 
 -- 1: "piece used up, packet not whole"; it is kept behind what is held
 abbrev pub kept : Side → Session → List ℕ → List ℕ → Outcome
@@ -70,7 +71,7 @@ kept from s hold piece =
       session = heldAs from (heldOf from s + length piece) s;
       number = 1;
       taken = length piece;
-      place = Nowhere;
+      location = Nowhere;
       size = 0;
       handed = none;
       hold = sets hold (heldOf from s) piece;
@@ -83,7 +84,7 @@ headerRefused from s hold piece n size =
       session = stoppedNow (heldAs from 0 s);
       number = n;
       taken = size - heldOf from s;
-      place = placeFor (heldOf from s);
+      location = locationFor (heldOf from s);
       size = size;
       handed = none;
       hold = completed hold (heldOf from s) piece size;
@@ -97,7 +98,7 @@ packetTaken from s hold piece v size =
       session = v .session;
       number = v .number;
       taken = size - heldOf from s;
-      place = placeFor (heldOf from s);
+      location = locationFor (heldOf from s);
       size = size;
       handed = v .handed;
       hold = completed hold (heldOf from s) piece size;
@@ -124,23 +125,23 @@ outcome l r piece hold =
       session = r .session;
       number = r .answer .number;
       taken = r .answer .taken;
-      place = r .answer .place;
+      location = r .answer .location;
       size = r .answer .size;
-      handed = handedAs l (bytesAt (r .answer .place) (r .answer .size) piece hold) (r .answer .handed);
+      handed = handedAs l (bytesAt (r .answer .location) (r .answer .size) piece hold) (r .answer .handed);
       hold = hold;
     }
 
 -- the body of a packet that is handed out, behind its header, and the part of it that the packet names
 abbrev pub bodyIn : Handed → List ℕ → List ℕ
-bodyIn Nothing bytes = []
-bodyIn (Passed h p) bytes = drop (h .size) bytes
+bodyIn NoPacket bytes = []
+bodyIn (OnePacket h p) bytes = drop (h .size) bytes
 
 abbrev pub dataIn : Handed → List ℕ → List ℕ
-dataIn Nothing bytes = []
-dataIn (Passed h p) bytes = inPart (partNamed p) (drop (h .size) bytes)
+dataIn NoPacket bytes = []
+dataIn (OnePacket h p) bytes = inPart (restOf p) (drop (h .size) bytes)
 
 -- the bytes of a whole packet of n bytes can be held and are there
-pub record Whole (hold piece : List ℕ) (held n : ℕ) : Type 0 where
+pub record WholeHere (hold piece : List ℕ) (held n : ℕ) : Type 0 where
   pub room : n ≤ length hold
   pub begun : held ≤ n
   pub there : n ≤ held + length piece

@@ -10,14 +10,17 @@ use Rattle.header.specs.declared.Side.{Side}
 use Rattle.header.specs.Header.{kindOf}
 use Rattle.kinds.specs.Codec.{decode, readNumber}
 use Rattle.device.specs.declared.Head.{Head}
-use Rattle.decoder.specs.declared.Reading.the-variants.{Passed as Read}
+use Rattle.device.specs.declared.Rows.{Rows}
+use Rattle.decoder.specs.declared.Reading.the-variants.{Decoded as Read}
 use Rattle.decoder.specs.Reading.{PacketTold, told, readOf}
 use Rattle.events.specs.Event.{eventOf}
+use Rattle.checks.specs.declared.Ruling.{Ruling}
+use Rattle.checks.specs.declared.Ruling.the-variants.{Denied, Granted, Pending}
 use Rattle.session.specs.declared.Session.{Session}
 use Rattle.session.specs.Session.{linkOf, heldIn, heldTo}
-use Rattle.session.specs.Step.{judged}
+use Rattle.session.specs.Step.{applied, judged}
 use Rattle.gate.specs.declared.Handed.{Handed}
-use Rattle.gate.specs.declared.Handed.the-variants.{Nothing, Passed}
+use Rattle.gate.specs.declared.Handed.the-variants.{NoPacket, OnePacket}
 
 -- ---- the held bytes of a direction, and a stop
 
@@ -61,5 +64,11 @@ verdictOf s from bytes =
 -- ---- what the code's types say
 
 abbrev pub handedAs : Link → List ℕ → Handed → Option PacketTold
-handedAs l bytes Nothing = none
-handedAs l bytes (Passed h p) = told l bytes (Read h p) .handed
+handedAs l bytes NoPacket = none
+handedAs l bytes (OnePacket h p) = told l bytes (Read h p) .handed
+
+-- the verdict by a ruling that waits for no slot, with what is handed out and the rows announced if it passes
+abbrev pub ruledAs : Session → Side → Option PacketTold → Rows → Ruling → VerdictTold
+ruledAs s from out new (Denied n) = record { session = s; number = n; handed = none }
+ruledAs s from out new (Granted c) = record { session = applied s from c new; number = 0; handed = out }
+ruledAs s from out new (Pending i x typed opens scope) = record { session = s; number = 0; handed = out }

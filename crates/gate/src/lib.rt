@@ -5,15 +5,16 @@ ghost use Prim.Native.Nat.{ℕ, _≤_};
 ghost use lib.ListN.{length, take};
 ghost use Rattle.header.specs.declared.Side.{Side};
 ghost use Rattle.header.specs.Link.{sharedSet};
+ghost use Rattle.header.specs.Header.{holdSize};
 ghost use Rattle.packet.specs.Packet.{contentOf};
 ghost use Rattle.frame.specs.Frame.{bytesAt};
-ghost use Rattle.frame.specs.Laws.{Cuts};
+ghost use Rattle.frame.specs.Frame.{Cuts};
 ghost use Rattle.checks.specs.Ruled.{awaited};
 ghost use Rattle.session.specs.declared.Session.{Session};
 ghost use Rattle.session.specs.Session.{linkTo, linkOf, heldIn};
 ghost use Rattle.gate.specs.Offer.{isWaiting, heldWhole, barred, offerOf, outcome, bodyIn, dataIn};
-ghost use Rattle.gate.specs.Decide.{endedWith, passedWith, concluded, changeIn, rowsTold, Lends, Decides};
-ghost use Rattle.gate.specs.Laws.{Ready};
+ghost use Rattle.gate.specs.Decide.{endedWith, passedWith, concluded, changeIn, rowsHanded, Lends, Decides};
+ghost use Rattle.gate.specs.Ready.{Ready};
 ghost use Rattle.gate.specs.Write.{shut, WritesBy};
 use checks::Change;
 use checks::Ruling;
@@ -28,25 +29,27 @@ use encoder::Written;
 use events::announced;
 use events::case_of;
 use frame::Cut;
-use frame::Place;
+use frame::Location;
 use frame::complete;
 use frame::cut_of;
 use frame::ends_within;
 use frame::lend;
-use frame::place_of;
+use frame::location_of;
+use header::HOLD_SIZE;
 use header::Header;
 use header::Link;
 use header::Side;
 use header::has_passed;
 use header::own_hello_passed;
-use number::get;
-use number::lay;
-use number::part;
-use number::saturating_sub;
+use octets::get;
+use octets::lay;
+use octets::part;
+use octets::saturating_sub;
 use packet::Packet;
 use packet::is_hello;
-use packet::part_named;
 use packet::part_of;
+use packet::rest_of;
+use requests::PLACES;
 use requests::Requests;
 use requests::Slot;
 use requests::free_slot;
@@ -62,8 +65,8 @@ use session::store;
 
 // What is handed out: nothing, or the packet that passed as its own reading.
 pub enum Handed {
-    Nothing,
-    Passed(Header, Packet),
+    NoPacket,
+    OnePacket(Header, Packet),
 }
 
 // A reader call's number; the bytes that it took of its piece; where the packet lies, or the header that it refused, and its size; and
@@ -71,7 +74,7 @@ pub enum Handed {
 pub struct Answer {
     pub number: u8,
     pub taken: usize,
-    pub place: Place,
+    pub location: Location,
     pub size: usize,
     pub handed: Handed,
 }
@@ -106,15 +109,15 @@ fn barred_by<'a>(
     h: Head,
     types: &'a [u8; 32],
     used: usize,
-    live: &'a [bool; 96],
-    ids: &'a [u64; 96],
+    live: &'a [bool; PLACES],
+    ids: &'a [u64; PLACES],
     l: Link,
     room: usize,
     whole: bool,
 ) -> u8
     ensures { λ r. ⌜ ((s : Session) (from : Side) (hold : List ℕ) → s .head ≡ h → s .rows .types ≡ now (types .entry) → s .requests .used ≡ used → s .requests .live ≡ now (live .entry) → s .requests .ids ≡ now (ids .entry) → l ≡ linkTo from h → room ≡ length hold → whole ≡ heldWhole from s hold → r ≡ barred from s hold) ⌝ }
 {
-    if room < 32784 {
+    if room < HOLD_SIZE {
         return 41;
     }
     if is_unfit(h, types, used, live, ids) | whole {
@@ -127,18 +130,25 @@ fn barred_by<'a>(
 }
 
 // A call by which no packet passes.
-fn ended(number: u8, taken: usize, place: Place, size: usize, held: usize, stopped: bool) -> Decided
-    ensures { λ r. ⌜ r ≡ endedWith number taken place size held stopped ⌝ }
+fn ended(
+    number: u8,
+    taken: usize,
+    location: Location,
+    size: usize,
+    held: usize,
+    stopped: bool,
+) -> Decided
+    ensures { λ r. ⌜ r ≡ endedWith number taken location size held stopped ⌝ }
 {
-    let handed = Handed::Nothing;
+    let handed = Handed::NoPacket;
     let answer = Answer {
         number,
         taken,
-        place,
+        location,
         size,
         handed,
     };
-    let ruling = Ruling::Passed(Change::Nothing);
+    let ruling = Ruling::Granted(Change::NoChange);
     Decided {
         answer,
         held,
@@ -150,20 +160,20 @@ fn ended(number: u8, taken: usize, place: Place, size: usize, held: usize, stopp
 // A call by which a packet passes, or waits for a slot.
 fn passing(
     taken: usize,
-    place: Place,
+    location: Location,
     size: usize,
     g: Header,
     p: Packet,
     stopped: bool,
     ruling: Ruling,
 ) -> Decided
-    ensures { λ r. ⌜ r ≡ passedWith taken place size g p stopped ruling ⌝ }
+    ensures { λ r. ⌜ r ≡ passedWith taken location size g p stopped ruling ⌝ }
 {
-    let handed = Handed::Passed(g, p);
+    let handed = Handed::OnePacket(g, p);
     let answer = Answer {
         number: 0,
         taken,
-        place,
+        location,
         size,
         handed,
     };
@@ -181,9 +191,9 @@ fn take_packet<'a>(
     types: &'a [u8; 32],
     streams: &'a [bool; 32],
     used: usize,
-    live: &'a [bool; 96],
-    kinds: &'a [u8; 96],
-    ids: &'a [u64; 96],
+    live: &'a [bool; PLACES],
+    kinds: &'a [u8; PLACES],
+    ids: &'a [u64; PLACES],
     l: Link,
     held: usize,
     kind: u32,
@@ -192,12 +202,12 @@ fn take_packet<'a>(
     hold: &mut [u8],
     piece: &[u8],
 ) -> Decided
-    requires { ⌜ size ≤ 32784 ⌝ }
+    requires { ⌜ size ≤ holdSize ⌝ }
     ensures { λ r. ⌜ ((s : Session) (from : Side) → Lends s h (now (types .entry)) (now (streams .entry)) used (now (live .entry)) (now (kinds .entry)) (now (ids .entry)) → l ≡ linkTo from h → held ≡ heldIn from h → Ready from s (now (hold .entry)) → Cuts l (take held (now (hold .entry)) ++ now (piece .entry)) kind head size → Decides from s r (now (hold .entry)) (now (piece .entry)) (now (hold .exit))) ⌝ }
 {
     let taken = complete(hold, held, piece, size);
-    let place = place_of(held);
-    let bytes = lend(place, size, piece, hold);
+    let location = location_of(held);
+    let bytes = lend(location, size, piece, hold);
     let header = Header {
         kind,
         length: saturating_sub(size, head) as u32,
@@ -208,8 +218,8 @@ fn take_packet<'a>(
     let from = l.sender;
     let reading = read_behind(l, header, body);
     match reading {
-        Reading::Refused(n) => ended(n, taken, place, size, 0, h.stopped | (kind == 0)),
-        Reading::Passed(g, p) => {
+        Reading::Refused(n) => ended(n, taken, location, size, 0, h.stopped | (kind == 0)),
+        Reading::Decoded(g, p) => {
             let ruling = rule(
                 h,
                 types,
@@ -221,10 +231,10 @@ fn take_packet<'a>(
                 case_of(from, g.id, p, body),
             );
             match ruling {
-                Ruling::Refused(n) => ended(n, taken, place, size, 0, h.stopped),
-                Ruling::Passed(_) => passing(taken, place, size, g, p, h.stopped, ruling),
+                Ruling::Denied(n) => ended(n, taken, location, size, 0, h.stopped),
+                Ruling::Granted(_) => passing(taken, location, size, g, p, h.stopped, ruling),
                 Ruling::Pending(_, _, _, _, _) => {
-                    passing(taken, place, size, g, p, h.stopped, ruling)
+                    passing(taken, location, size, g, p, h.stopped, ruling)
                 }
             }
         }
@@ -237,9 +247,9 @@ pub fn decide<'a>(
     types: &'a [u8; 32],
     streams: &'a [bool; 32],
     used: usize,
-    live: &'a [bool; 96],
-    kinds: &'a [u8; 96],
-    ids: &'a [u64; 96],
+    live: &'a [bool; PLACES],
+    kinds: &'a [u8; PLACES],
+    ids: &'a [u64; PLACES],
     from: Side,
     hold: &mut [u8],
     piece: &[u8],
@@ -253,19 +263,19 @@ pub fn decide<'a>(
     let whole = ends_within(c, begun.len());
     let number = barred_by(h, types, used, live, ids, l, hold.len(), whole);
     if number != 0 {
-        return ended(number, 0, Place::Nowhere, 0, held, h.stopped);
+        return ended(number, 0, Location::Nowhere, 0, held, h.stopped);
     }
     match c {
         Cut::More => {
             let taken = piece.len();
             lay(hold, held, piece);
-            ended(1, taken, Place::Nowhere, 0, held + taken, h.stopped)
+            ended(1, taken, Location::Nowhere, 0, held + taken, h.stopped)
         }
-        Cut::Refused(n, size) => {
+        Cut::BadHeader(n, size) => {
             let taken = complete(hold, held, piece, size);
-            ended(n, taken, place_of(held), size, 0, true)
+            ended(n, taken, location_of(held), size, 0, true)
         }
-        Cut::Whole(kind, head, size) => take_packet(
+        Cut::WholePacket(kind, head, size) => take_packet(
             h,
             types,
             streams,
@@ -298,13 +308,20 @@ pub fn settle(d: Decided, slot: Slot) -> Decided
 {
     let answer = d.answer;
     let waiting = d.ruling;
-    let ruling = checks::settle(waiting, slot);
+    let ruling = checks::settle_ruling(waiting, slot);
     match ruling {
-        Ruling::Refused(number) => {
-            let place = answer.place;
-            ended(number, answer.taken, place, answer.size, d.held, d.stopped)
+        Ruling::Denied(number) => {
+            let location = answer.location;
+            ended(
+                number,
+                answer.taken,
+                location,
+                answer.size,
+                d.held,
+                d.stopped,
+            )
         }
-        Ruling::Passed(_) => Decided {
+        Ruling::Granted(_) => Decided {
             answer,
             held: d.held,
             stopped: d.stopped,
@@ -314,7 +331,7 @@ pub fn settle(d: Decided, slot: Slot) -> Decided
             answer,
             held: d.held,
             stopped: d.stopped,
-            ruling: Ruling::Passed(Change::Nothing),
+            ruling: Ruling::Granted(Change::NoChange),
         },
     }
 }
@@ -325,19 +342,19 @@ pub fn change_of(d: Decided) -> Change
 {
     let ruling = d.ruling;
     match ruling {
-        Ruling::Refused(_) => Change::Nothing,
-        Ruling::Passed(c) => c,
-        Ruling::Pending(_, _, _, _, _) => Change::Nothing,
+        Ruling::Denied(_) => Change::NoChange,
+        Ruling::Granted(c) => c,
+        Ruling::Pending(_, _, _, _, _) => Change::NoChange,
     }
 }
 
 // The rows that a packet which is handed out announces.
-pub fn rows_told(handed: Handed, body: &[u8]) -> Rows
-    ensures { λ r. ⌜ ((from : Side) (caps id : ℕ) → r ≡ rowsTold from caps id handed (now (body .entry))) ⌝ }
+pub fn rows_handed(handed: Handed, body: &[u8]) -> Rows
+    ensures { λ r. ⌜ ((from : Side) (caps id : ℕ) → r ≡ rowsHanded from caps id handed (now (body .entry))) ⌝ }
 {
     match handed {
-        Handed::Nothing => start_rows(),
-        Handed::Passed(_, p) => announced(p, body),
+        Handed::NoPacket => start_rows(),
+        Handed::OnePacket(_, p) => announced(p, body),
     }
 }
 
@@ -369,7 +386,7 @@ pub fn offer(s: Session, from: Side, hold: &mut [u8], piece: &[u8]) -> Offered
         piece,
     );
     let w = wanted(d);
-    let slot = if w < 96 { slots[w] } else { free_slot() };
+    let slot = if w < PLACES { slots[w] } else { free_slot() };
     let e = settle(d, slot);
     let answer = e.answer;
     let head = hold_to(h, from, e.held, e.stopped);
@@ -392,13 +409,13 @@ pub fn offer(s: Session, from: Side, hold: &mut [u8], piece: &[u8]) -> Offered
                 slots,
             },
         };
-        let new = rows_told(handed, body_of(answer, piece, hold));
+        let new = rows_handed(handed, body_of(answer, piece, hold));
         let session = apply(before, from, c, new);
         return Offered { session, answer };
     }
     let used = store(edit, t.used, &mut streams, &mut live, &mut kinds, &mut ids);
     let place = edit.place;
-    if place < 96 {
+    if place < PLACES {
         let q = edit.request;
         slots[place] = slot_for(q);
     }
@@ -422,33 +439,33 @@ pub fn offer(s: Session, from: Side, hold: &mut [u8], piece: &[u8]) -> Offered
 
 // The bytes of the packet, or of the header that was refused, where they lie when the call is over.
 pub fn bytes_of<'a>(a: Answer, piece: &'a [u8], hold: &'a [u8]) -> &'a [u8]
-    ensures { λ r. ⌜ now r ≡ bytesAt (a .place) (a .size) (now (piece .entry)) (now (hold .entry)) ⌝ }
+    ensures { λ r. ⌜ now r ≡ bytesAt (a .location) (a .size) (now (piece .entry)) (now (hold .entry)) ⌝ }
 {
-    let place = a.place;
-    lend(place, a.size, piece, hold)
+    let location = a.location;
+    lend(location, a.size, piece, hold)
 }
 
 // The body of the packet that is handed out, and nothing where none is.
 pub fn body_of<'a>(a: Answer, piece: &'a [u8], hold: &'a [u8]) -> &'a [u8]
-    ensures { λ r. ⌜ now r ≡ bodyIn (a .handed) (bytesAt (a .place) (a .size) (now (piece .entry)) (now (hold .entry))) ⌝ }
+    ensures { λ r. ⌜ now r ≡ bodyIn (a .handed) (bytesAt (a .location) (a .size) (now (piece .entry)) (now (hold .entry))) ⌝ }
 {
     let bytes = bytes_of(a, piece, hold);
     let handed = a.handed;
     match handed {
-        Handed::Nothing => part(bytes, 0, 0),
-        Handed::Passed(h, _) => part(bytes, h.size, bytes.len()),
+        Handed::NoPacket => part(bytes, 0, 0),
+        Handed::OnePacket(h, _) => part(bytes, h.size, bytes.len()),
     }
 }
 
-// The part of the body that the packet names: its data, a table's rows, a string, or a hello's version and words.
+// What follows the fields of the packet that is handed out: its data, a string, or a hello's words; nothing where none is.
 pub fn data_of<'a>(a: Answer, piece: &'a [u8], hold: &'a [u8]) -> &'a [u8]
-    ensures { λ r. ⌜ now r ≡ dataIn (a .handed) (bytesAt (a .place) (a .size) (now (piece .entry)) (now (hold .entry))) ⌝ }
+    ensures { λ r. ⌜ now r ≡ dataIn (a .handed) (bytesAt (a .location) (a .size) (now (piece .entry)) (now (hold .entry))) ⌝ }
 {
     let body = body_of(a, piece, hold);
     let handed = a.handed;
     match handed {
-        Handed::Nothing => body,
-        Handed::Passed(_, p) => part_of(body, part_named(p)),
+        Handed::NoPacket => body,
+        Handed::OnePacket(_, p) => part_of(body, rest_of(p)),
     }
 }
 
@@ -457,8 +474,8 @@ fn shut_by<'a>(
     h: Head,
     types: &'a [u8; 32],
     used: usize,
-    live: &'a [bool; 96],
-    ids: &'a [u64; 96],
+    live: &'a [bool; PLACES],
+    ids: &'a [u64; PLACES],
     from: Side,
     hello: bool,
 ) -> u8

@@ -4,7 +4,7 @@ use Prim.Native.Nat.{ℕ, _+_}
 use mathlib.Core.Bool.{cond}
 use mathlib.Core.List.{List, _++_}
 use lib.Dec.{eqb, ltb}
-use Rattle.number.specs.Little.{le, bytesOf}
+use Rattle.octets.specs.Little.{le, bytesOf}
 use Rattle.header.specs.declared.Link.{Link}
 use Rattle.header.specs.declared.Header.{Header}
 use Rattle.header.specs.Link.{passed, own, idWidth}
@@ -30,9 +30,17 @@ headerOf l bytes = record { kind = kindOf bytes; length = lengthOf bytes; id = i
 unfoldable pub headerBytes : Link → ℕ → ℕ → ℕ → List ℕ
 headerBytes l kind length id = bytesOf 4 kind ++ (bytesOf 4 length ++ bytesOf (idWidth l kind) id)
 
+-- document 01, 10: "length over 32,768"
+abbrev pub maxLength : ℕ
+maxLength = 32768
+
+-- document 01, 41: "holding buffer under 32,784 bytes", which a header of 16 and the longest body fill
+abbrev pub holdSize : ℕ
+holdSize = 16 + maxLength
+
 -- document 01: 10 "length over 32,768", 11 "first packet isn't a hello", 12 "second hello", "(that order)"
 unfoldable pub headerNumber : Link → ℕ → ℕ → ℕ
 headerNumber l kind length =
-    cond (ltb 32768 length) 10
+    cond (ltb maxLength length) 10
     (cond (passed (own l)) (cond (eqb kind 0) 12 0)
     (cond (eqb kind 0) 0 11))

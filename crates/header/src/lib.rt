@@ -1,10 +1,16 @@
 // The two ends, what their hellos offered, the shared set, and the packet header with its two widths.
 ghost use mathlib.Core.Path.{_≡_};
-ghost use Rattle.header.specs.Link.{sideOf, offered, sharedSet, passed, idWidth};
+ghost use Rattle.header.specs.Link.{isGuest, sideOf, offered, sharedSet, passed, idWidth};
 ghost use Rattle.header.specs.Header.{headerOf, headerNumber};
-use number::get;
-use number::get32;
-use number::has_bit;
+use octets::get;
+use octets::get32;
+use octets::has_bit;
+
+// The longest body.
+pub const MAX_LENGTH: usize = 32768;
+
+// The least holding buffer: room for the longest header and the longest body.
+pub const HOLD_SIZE: usize = 16 + MAX_LENGTH;
 
 pub enum Side {
     Guest,
@@ -12,7 +18,7 @@ pub enum Side {
 }
 
 // An end's hello: not passed yet, or passed with this first capability word (0 if it had none).
-pub enum Hello {
+pub enum HelloState {
     Awaited,
     Passed(u32),
 }
@@ -20,8 +26,8 @@ pub enum Hello {
 // One direction of a session as the wire checks see it: who sends, and both hellos.
 pub struct Link {
     pub sender: Side,
-    pub guest: Hello,
-    pub host: Hello,
+    pub guest: HelloState,
+    pub host: HelloState,
 }
 
 // A header as read: its kind, the body length that it says, its id, and its own size in bytes.
@@ -32,6 +38,15 @@ pub struct Header {
     pub size: usize,
 }
 
+pub fn is_guest(from: Side) -> bool
+    ensures { λ r. ⌜ r ≡ isGuest from ⌝ }
+{
+    match from {
+        Side::Guest => true,
+        Side::Host => false,
+    }
+}
+
 // The side of a number: 0 for the guest, any other for the host.
 pub fn side_of(n: u8) -> Side
     ensures { λ r. ⌜ r ≡ sideOf n ⌝ }
@@ -40,30 +55,30 @@ pub fn side_of(n: u8) -> Side
 }
 
 // The capability word that a hello has offered so far.
-pub fn offered(h: Hello) -> u32
+pub fn offered(h: HelloState) -> u32
     ensures { λ r. ⌜ r ≡ offered h ⌝ }
 {
     match h {
-        Hello::Awaited => 0,
-        Hello::Passed(word) => word,
+        HelloState::Awaited => 0,
+        HelloState::Passed(word) => word,
     }
 }
 
-// The bits that both hellos offered; none before both have passed.
+// Of bits 0 to 7 those that both hellos offered; none before both have passed.
 pub fn shared_set(l: Link) -> u32
     ensures { λ r. ⌜ r ≡ sharedSet l ⌝ }
 {
     let guest = l.guest;
     let host = l.host;
-    offered(guest) & offered(host)
+    offered(guest) & offered(host) & 255
 }
 
-pub fn has_passed(h: Hello) -> bool
+pub fn has_passed(h: HelloState) -> bool
     ensures { λ r. ⌜ r ≡ passed h ⌝ }
 {
     match h {
-        Hello::Awaited => false,
-        Hello::Passed(_) => true,
+        HelloState::Awaited => false,
+        HelloState::Passed(_) => true,
     }
 }
 
@@ -111,7 +126,7 @@ pub fn read_header(l: Link, bytes: &[u8]) -> Header
 pub fn header_number(l: Link, kind: u32, length: usize) -> u8
     ensures { λ r. ⌜ r ≡ headerNumber l kind length ⌝ }
 {
-    if 32768 < length {
+    if MAX_LENGTH < length {
         return 10;
     }
     if own_hello_passed(l) {

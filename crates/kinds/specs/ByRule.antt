@@ -187,7 +187,7 @@ fields p (k ∷ ks) = places p (k .number) (k .fields) ++ fields p ks
 
 pub fields-in-order : fields (λ f. true) kinds
     ≡ ((0, "version") ∷ (1, "speed") ∷ (1, "class") ∷ (1, "subclass") ∷ (1, "protocol") ∷ (1, "vendor") ∷ (1, "product") ∷ (1, "version")
-    ∷ (4, "count") ∷ (4, "number") ∷ (4, "class") ∷ (4, "subclass") ∷ (4, "protocol")
+    ∷ (4, "count") ∷ (4, "interface") ∷ (4, "class") ∷ (4, "subclass") ∷ (4, "protocol")
     ∷ (5, "type") ∷ (5, "interval") ∷ (5, "interface") ∷ (5, "max packet") ∷ (5, "max streams") ∷ (6, "configuration")
     ∷ (8, "status") ∷ (8, "configuration") ∷ (9, "interface") ∷ (9, "alt") ∷ (10, "interface") ∷ (11, "status") ∷ (11, "interface") ∷ (11, "alt")
     ∷ (12, "endpoint") ∷ (12, "packets") ∷ (12, "urbs") ∷ (13, "endpoint") ∷ (14, "status") ∷ (14, "endpoint") ∷ (15, "endpoint") ∷ (16, "endpoint")

@@ -4,13 +4,13 @@
 use Prim.Native.Nat.{ℕ, zero, suc, _+_, _*_}
 use Prim.Native.String.{String}
 use mathlib.Core.Bool.{Bool, true, cond, _&&_}
-use mathlib.Core.List.{List, [], _∷_, _++_}
+use mathlib.Core.List.{List, [], _∷_, _++_, map}
 use mathlib.Core.Option.{Option, none, some}
 use lib.ListN.{length, drop}
 use lib.Dec.{eqb, leb}
 use lib.Text.{eqt}
-use Rattle.number.specs.Little.{le, bytesOf}
-use Rattle.number.specs.Bits.{hasBit}
+use Rattle.octets.specs.Little.{le, bytesOf}
+use Rattle.octets.specs.Bits.{hasBit}
 use Rattle.kinds.specs.Table.{Bits, always, bit, bits, Field, Kind}
 
 -- a field's numbers; none where the field is not there
@@ -79,6 +79,15 @@ abbrev pub bytes : List Field → List Value → List ℕ
 bytes [] vs = []
 bytes (f ∷ fs) [] = []
 bytes (f ∷ fs) (v ∷ vs) = bytesOfValue (f .width) v ++ bytes fs vs
+
+-- the widths of the first seven fields, 0 for those that are not there: no kind has more that are one number each
+abbrev pub padded : ℕ → List ℕ → List ℕ
+padded zero xs = []
+padded (suc n) [] = 0 ∷ padded n []
+padded (suc n) (x ∷ xs) = x ∷ padded n xs
+
+abbrev pub widths : List Field → List ℕ
+widths fs = padded 7 (map (λ (f : Field). f .width) fs)
 
 -- ---- a field by its name: its first number, 0 where it is not there
 

@@ -11,8 +11,8 @@ use lib.Dec.{leb}
 use lib.Text.{eqt}
 use Rattle.header.specs.declared.Side.{Side}
 use Rattle.header.specs.declared.Side.the-variants.{Guest, Host}
-use Rattle.header.specs.declared.Hello.the-variants.{Awaited, Passed}
-use Rattle.number.specs.Bits.{hasBit}
+use Rattle.header.specs.declared.HelloState.the-variants.{Awaited, Passed}
+use Rattle.octets.specs.Bits.{hasBit}
 use Rattle.header.specs.Link.{sharedSet, idWidth}
 use Rattle.kinds.specs.Table.{Bits, always, bit, bits, Field, Tail, nothing, words, string, payload, payload-onward, Kind, kinds, kindAt}
 use Rattle.kinds.specs.Content.{Value, one, Content, shared, size, packetOf}

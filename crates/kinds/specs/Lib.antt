@@ -2,10 +2,8 @@ pub mod Table
 pub mod Content
 pub mod Number
 pub mod Codec
-pub mod Laws
 pub mod RoundTrip
 pub mod Examples
 pub mod Slots
-pub mod Again
-pub mod Reread
 pub mod ByRule
+pub mod Formed

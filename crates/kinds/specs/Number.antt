@@ -6,19 +6,15 @@ use mathlib.Core.List.{List, [], _∷_}
 use mathlib.Core.Option.{Option, none, some}
 use lib.ListN.{length, getD}
 use lib.Dec.{eqb, leb, ltb}
-use Rattle.number.specs.Little.{le}
-use Rattle.number.specs.Bits.{hasBit}
+use Rattle.octets.specs.Little.{le}
+use Rattle.octets.specs.Bits.{hasBit}
 use Rattle.endpoint.specs.Endpoint.{isAddress}
 use Rattle.header.specs.declared.Side.{Side}
 use Rattle.header.specs.declared.Side.the-variants.{Guest, Host}
 use Rattle.header.specs.declared.Link.{Link}
-use Rattle.header.specs.Link.{sharedSet, idWidth}
+use Rattle.header.specs.Link.{isGuest, sharedSet, idWidth}
 use Rattle.kinds.specs.Table.{Sender, G, H, B, Rule, any, holding-zero, speed, at-most-32, endpoint-type, status, endpoint, endpoint-in, endpoint-onward, endpoint-out-of-guest, as-endpoint, nonzero, zero-without, Field, Tail, nothing, words, string, payload, payload-onward, Id, id-any, id-zero, Kind, kinds}
 use Rattle.kinds.specs.Content.{Value, Content, shared, sizeOf, size, named, find}
-
-abbrev pub isGuest : Side → Bool
-isGuest Guest = true
-isGuest Host = false
 
 -- ---- 21: wrong sender
 

@@ -11,7 +11,7 @@ use native.Mathlib.Omega.{arith}
 use lib.ListN.{length, getD}
 use lib.Dec.{eqb, leb, lit≤}
 use borrow.Author.Tests.{eqb-true, le-leb, lt-leb, leb-true}
-use Rattle.number.specs.Logic.{and-parts}
+use Rattle.octets.proofs.Logic.{and-parts}
 use Rattle.kinds.specs.Table.{Bits, Field, Kind, kinds, kindAt, none-such}
 use Rattle.kinds.specs.Content.{size, find}
 

@@ -109,7 +109,7 @@ kinds =
     ∷ idless 1 H (u8 "speed" is speed ∷ u8 "class" ∷ u8 "subclass" ∷ u8 "protocol" ∷ u16 "vendor" ∷ u16 "product" ∷ u16 "version" with bit 1 ∷ [])
     ∷ idless 2 H []
     ∷ kind 3 G []
-    ∷ idless 4 H (u32 "count" is at-most-32 ∷ u8 "number" times 32 ∷ u8 "class" times 32 ∷ u8 "subclass" times 32 ∷ u8 "protocol" times 32 ∷ [])
+    ∷ idless 4 H (u32 "count" is at-most-32 ∷ u8 "interface" times 32 ∷ u8 "class" times 32 ∷ u8 "subclass" times 32 ∷ u8 "protocol" times 32 ∷ [])
     ∷ idless 5 H (u8 "type" times 32 is endpoint-type ∷ u8 "interval" times 32 ∷ u8 "interface" times 32 ∷ u16 "max packet" times 32 with bit 4 ∷ u32 "max streams" times 32 with bits 4 0 ∷ [])
     ∷ kind 6 G (u8 "configuration" ∷ [])
     ∷ kind 7 G []

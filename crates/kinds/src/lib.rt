@@ -1,24 +1,57 @@
 // Columns of the table of kinds (specs/Table.antt) as the code asks for them, by slot: kinds 0 to 27 stand at their
 // number and 100 to 104 at 28 to 32. A slot past these asks for no kind: any sender, no bit, no field.
 ghost use mathlib.Core.Path.{_≡_};
+ghost use mathlib.Core.Bool.{not};
+ghost use Rattle.header.specs.declared.Side.the-variants.{Guest, Host};
 ghost use Rattle.kinds.specs.Table.{kindAt};
-ghost use Rattle.kinds.specs.Content.{shared, size, neededBit};
-ghost use Rattle.kinds.specs.Number.{sends, isGuest};
+ghost use Rattle.kinds.specs.Content.{shared, size, neededBit, widths as fieldWidths};
+ghost use Rattle.kinds.specs.Number.{sends};
 use header::Side;
-use number::choose;
-use number::has_bit;
+use octets::choose;
+use octets::has_bit;
 
-// The kinds that the guest sends and those that the host sends, a bit for each slot.
-const GUEST: u64 = 4159551177;
-
-const HOST: u64 = 8465303863;
-
-pub fn is_guest(from: Side) -> bool
-    ensures { λ r. ⌜ r ≡ isGuest from ⌝ }
+// A kind that the host alone sends.
+fn is_hosts(slot: usize) -> bool
+    ensures { λ r. ⌜ r ≡ not (sends (kindAt slot .sender) Guest) ⌝ }
 {
-    match from {
-        Side::Guest => true,
-        Side::Host => false,
+    match slot {
+        1 => true,
+        2 => true,
+        4 => true,
+        5 => true,
+        8 => true,
+        11 => true,
+        14 => true,
+        17 => true,
+        20 => true,
+        27 => true,
+        32 => true,
+        _ => false,
+    }
+}
+
+// A kind that the guest alone sends.
+fn is_guests(slot: usize) -> bool
+    ensures { λ r. ⌜ r ≡ not (sends (kindAt slot .sender) Host) ⌝ }
+{
+    match slot {
+        3 => true,
+        6 => true,
+        7 => true,
+        9 => true,
+        10 => true,
+        12 => true,
+        13 => true,
+        15 => true,
+        16 => true,
+        18 => true,
+        19 => true,
+        21 => true,
+        22 => true,
+        24 => true,
+        25 => true,
+        26 => true,
+        _ => false,
     }
 }
 
@@ -26,13 +59,9 @@ pub fn is_guest(from: Side) -> bool
 pub fn may_send(slot: usize, from: Side) -> bool
     ensures { λ r. ⌜ r ≡ sends (kindAt slot .sender) from ⌝ }
 {
-    if 33 <= slot {
-        return true;
-    }
-    if is_guest(from) {
-        (GUEST >> slot) & 1 == 1
-    } else {
-        (HOST >> slot) & 1 == 1
+    match from {
+        Side::Guest => !is_hosts(slot),
+        Side::Host => !is_guests(slot),
     }
 }
 
@@ -107,5 +136,40 @@ fn other_size(slot: usize) -> usize
         31 => 4,
         32 => 10,
         _ => 0,
+    }
+}
+
+// The widths of the kind's fields in bytes, in body order; 0 past the last.
+pub fn widths(slot: usize) -> [u8; 7]
+    ensures { λ r. ⌜ r ≡ fieldWidths (kindAt slot .fields) ⌝ }
+{
+    match slot {
+        0 => [1, 0, 0, 0, 0, 0, 0],
+        1 => [1, 1, 1, 1, 2, 2, 2],
+        4 => [4, 1, 1, 1, 1, 0, 0],
+        5 => [1, 1, 1, 2, 4, 0, 0],
+        6 => [1, 0, 0, 0, 0, 0, 0],
+        8 => [1, 1, 0, 0, 0, 0, 0],
+        9 => [1, 1, 0, 0, 0, 0, 0],
+        10 => [1, 0, 0, 0, 0, 0, 0],
+        11 => [1, 1, 1, 0, 0, 0, 0],
+        12 => [1, 1, 1, 0, 0, 0, 0],
+        13 => [1, 0, 0, 0, 0, 0, 0],
+        14 => [1, 1, 0, 0, 0, 0, 0],
+        15 => [1, 0, 0, 0, 0, 0, 0],
+        16 => [1, 0, 0, 0, 0, 0, 0],
+        17 => [1, 1, 0, 0, 0, 0, 0],
+        18 => [4, 4, 0, 0, 0, 0, 0],
+        19 => [4, 0, 0, 0, 0, 0, 0],
+        20 => [4, 4, 1, 0, 0, 0, 0],
+        25 => [4, 4, 1, 1, 0, 0, 0],
+        26 => [4, 1, 0, 0, 0, 0, 0],
+        27 => [4, 1, 1, 0, 0, 0, 0],
+        28 => [1, 1, 1, 1, 2, 2, 2],
+        29 => [1, 1, 2, 4, 2, 0, 0],
+        30 => [1, 1, 2, 0, 0, 0, 0],
+        31 => [1, 1, 2, 0, 0, 0, 0],
+        32 => [4, 4, 1, 1, 0, 0, 0],
+        _ => [0, 0, 0, 0, 0, 0, 0],
     }
 }

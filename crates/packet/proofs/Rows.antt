@@ -13,18 +13,20 @@ use lib.ListN.{length, getD, drop, length-drop, List·getD-eq-default}
 use lib.Seq.{drop-drop}
 use lib.Dec.{leb, lit<, lit≤}
 use borrow.Author.Tests.{le-leb, lt-leb}
-use Rattle.number.specs.Little.{le}
-use Rattle.number.specs.Laws.{le-drop}
-use Rattle.kinds.specs.Table.{kinds}
-use Rattle.kinds.specs.Content.{numbers, split}
+use Rattle.octets.specs.Little.{le}
+use Rattle.octets.proofs.Integers.{le-drop}
+use Rattle.kinds.specs.Table.{Field, kinds}
+use Rattle.kinds.specs.Content.{Value, numbers, size, split}
 use Rattle.kinds.specs.Codec.{layout}
-use Rattle.kinds.specs.Laws.{length-numbers}
+use Rattle.kinds.proofs.FieldBytes.{length-numbers}
 use Rattle.packet.specs.declared.EndpointRow.{EndpointRow}
 use Rattle.packet.specs.declared.InterfaceRow.{InterfaceRow}
 use Rattle.packet.specs.declared.Optional16.the-variants.{Absent, Present}
-use Rattle.packet.specs.Packet.{columnsOf, optional16Of}
+use Rattle.packet.specs.declared.InterfaceTable.{InterfaceTable}
+use Rattle.packet.specs.declared.EndpointTable.{EndpointTable}
+use Rattle.packet.specs.Packet.{inPart, rowsIn, columnsOf, optional16Of}
 use Rattle.packet.specs.declared.Optional32.the-variants.{Present as Present32}
-use Rattle.packet.specs.Rows.{cellAt, element, optional32Of, interfaceRow, endpointRow}
+use Rattle.packet.specs.Rows.{tableSize, cellAt, element, optional32Of, interfaceRow, endpointRow}
 
 at-number : (w n : ℕ) (s : List ℕ) (at i : ℕ) → i < n → getD (numbers w n s at) i 0 ≡ le w s (at + i * w)
 at-number w zero s at i h = absurd (not-suc-le-zero h)
@@ -74,17 +76,22 @@ abbrev inColumn : ℕ → List ℕ → ℕ → ℕ
 inColumn w s i = getD (cond (leb (w * 32) (length s)) (numbers w 32 s 0) []) i 0
 
 -- a row of an interface table: four columns, each by its own place
-pub interface-cells : (rows : List ℕ) (i : ℕ)
-    → _≡_ {A = InterfaceRow}
-    (record { number = cellAt rows 0 1 i; class = cellAt rows 32 1 i; subclass = cellAt rows 64 1 i; protocol = cellAt rows 96 1 i })
-    (interfaceRow rows i)
+pub interface-cells : (t : InterfaceTable) (body : List ℕ) (i : ℕ)
+    → let rows : List ℕ = rowsIn 128 (inPart (t .rows) body) in
+    _≡_ {A = InterfaceRow}
+    (record { interface = cellAt rows 0 1 i; class = cellAt rows 32 1 i; subclass = cellAt rows 64 1 i; protocol = cellAt rows 96 1 i })
+    (interfaceRow t body i)
 unfolding kinds layout interfaceRow
-interface-cells rows i = λ j.
-    record { number = inColumn 1 rows i; class = inColumn 1 (drop 32 rows) i; subclass = inColumn 1 (two rows j) i; protocol = inColumn 1 (three rows j) i }
+interface-cells t body i =
+    let rows : List ℕ = rowsIn 128 (inPart (t .rows) body) in
+    λ j.
+    record { interface = inColumn 1 rows i; class = inColumn 1 (drop 32 rows) i; subclass = inColumn 1 (two rows j) i; protocol = inColumn 1 (three rows j) i }
 
 -- a row of an endpoint table: three columns, and two that may not be there
-pub endpoint-cells : (rows : List ℕ) (packets streams : Bool) (i : ℕ)
-    → _≡_ {A = EndpointRow}
+table-cells : (rows : List ℕ) (packets streams : Bool) (i : ℕ)
+    → let fs : List Field = layout 5 in
+    let vs : List Value = split (columnsOf packets streams) fs rows in
+    _≡_ {A = EndpointRow}
     (record {
       ty = cellAt rows 0 1 i;
       interval = cellAt rows 32 1 i;
@@ -92,9 +99,15 @@ pub endpoint-cells : (rows : List ℕ) (packets streams : Bool) (i : ℕ)
       maxpacket = optional16Of packets (cellAt rows 96 2 i);
       maxstreams = optional32Of streams (cellAt rows (cond packets 160 96) 4 i);
     })
-    (endpointRow rows packets streams i)
-unfolding kinds layout endpointRow
-endpoint-cells rows true streams i = λ j.
+    (record {
+      ty = element "type" fs vs i;
+      interval = element "interval" fs vs i;
+      interface = element "interface" fs vs i;
+      maxpacket = optional16Of packets (element "max packet" fs vs i);
+      maxstreams = optional32Of streams (element "max streams" fs vs i);
+    })
+unfolding kinds layout
+table-cells rows true streams i = λ j.
     record {
       ty = inColumn 1 rows i;
       interval = inColumn 1 (drop 32 rows) i;
@@ -106,7 +119,7 @@ endpoint-cells rows true streams i = λ j.
     behind : (b : Bool) → optional32Of b (inColumn 4 (drop 160 rows) i) ≡ optional32Of b (element "max streams" (layout 5) (split (columnsOf true b) (layout 5) rows) i)
     behind true = λ j. Present32 (inColumn 4 (five rows j) i)
     behind false = refl
-endpoint-cells rows false streams i = λ j.
+table-cells rows false streams i = λ j.
     record {
       ty = inColumn 1 rows i;
       interval = inColumn 1 (drop 32 rows) i;
@@ -118,3 +131,27 @@ endpoint-cells rows false streams i = λ j.
     behind : (b : Bool) → optional32Of b (inColumn 4 (drop 96 rows) i) ≡ optional32Of b (element "max streams" (layout 5) (split (columnsOf false b) (layout 5) rows) i)
     behind true = λ j. Present32 (inColumn 4 (three rows j) i)
     behind false = refl
+
+-- the table's bytes are the sum of its columns'
+pub table-size : (p s : Bool) → tableSize p s ≡ size (columnsOf p s) (layout 5)
+unfolding kinds layout
+table-size true true = refl
+table-size true false = refl
+table-size false true = refl
+table-size false false = refl
+
+pub endpoint-cells : (t : EndpointTable) (body : List ℕ) (i : ℕ)
+    → let rows : List ℕ = rowsIn (tableSize (t .maxpacket) (t .maxstreams)) (inPart (t .rows) body) in
+    _≡_ {A = EndpointRow}
+    (record {
+      ty = cellAt rows 0 1 i;
+      interval = cellAt rows 32 1 i;
+      interface = cellAt rows 64 1 i;
+      maxpacket = optional16Of (t .maxpacket) (cellAt rows 96 2 i);
+      maxstreams = optional32Of (t .maxstreams) (cellAt rows (cond (t .maxpacket) 160 96) 4 i);
+    })
+    (endpointRow t body i)
+unfolding endpointRow
+endpoint-cells t body i =
+    rw (table-size (t .maxpacket) (t .maxstreams))
+    (table-cells (rowsIn (size (columnsOf (t .maxpacket) (t .maxstreams)) (layout 5)) (inPart (t .rows) body)) (t .maxpacket) (t .maxstreams) i)

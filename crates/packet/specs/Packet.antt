@@ -1,14 +1,14 @@
--- The packet of the code and what it says: for each variant its kind's number and the values of its fields, in body order.
+-- The packet of the code and what it says: for each variant its kind's number and its fields by name, in body order.
 -- Assumes nothing: these are definitions.
 use Prim.Native.Nat.{ℕ, _/_, _%_}
-use mathlib.Core.Bool.{Bool, true, cond, _||_}
-use mathlib.Core.List.{List, [], _∷_, _++_}
-use mathlib.Core.Option.{none}
+use mathlib.Core.Bool.{Bool, true, false, cond, _||_}
+use mathlib.Core.List.{List, [], _∷_, _++_, map}
+use mathlib.Core.Option.{Option, none, some}
 use lib.ListN.{length, drop}
 use lib.Seq.{slice}
 use lib.Dec.{eqb, ltb}
-use Rattle.number.specs.Bits.{hasBit}
-use Rattle.kinds.specs.Table.{Bits, always, bit, bits}
+use Rattle.octets.specs.Bits.{hasBit}
+use Rattle.kinds.specs.Table.{Bits, always, bit, bits, Field}
 use Rattle.kinds.specs.Content.{Value, one, Content, size, split}
 use Rattle.kinds.specs.Codec.{layout}
 use Rattle.packet.specs.declared.Part.{Part}
@@ -21,34 +21,42 @@ use Rattle.packet.specs.declared.Packet.the-variants.{Hello, Connect, Di
 abbrev pub inPart : Part → List ℕ → List ℕ
 inPart p body = slice (p .start) (p .end) body
 
--- a variant: its kind, the fields that it holds as numbers, the part of the body that holds the others and what follows,
--- and which of the fields in that part are there
+abbrev pub noPart : Part
+noPart = record { start = 0; end = 0 }
+
+-- a variant: its kind, the fields that it holds as numbers, each there or not, the part of the body that holds the fields of many numbers,
+-- which of these are there, and the part that follows the fields
 pub record Shown : Type 0 where
   pub kind : ℕ
-  pub front : List Value
-  pub part : Part
+  pub front : List (Option ℕ)
+  pub rows : Part
   pub columns : Bits → Bool
+  pub rest : Part
 
--- a variant that has a part of the body
-abbrev pub carrying : ℕ → List Value → Part → Shown
-carrying k vs p = record { kind = k; front = vs; part = p; columns = λ b. true }
+-- a variant whose fields are numbers, with data or a string behind them
+abbrev pub carrying : ℕ → List (Option ℕ) → Part → Shown
+carrying k vs p = record { kind = k; front = vs; rows = noPart; columns = λ b. true; rest = p }
 
 -- a variant that has none
-abbrev pub plain : ℕ → List Value → Shown
-plain k vs = carrying k vs (record { start = 0; end = 0 })
+abbrev pub plain : ℕ → List (Option ℕ) → Shown
+plain k vs = carrying k vs noPart
 
 -- a field that is there where b holds
 abbrev pub optional16Of : Bool → ℕ → Optional16
 optional16Of b x = cond b (Present x) Absent
 
-abbrev pub optional : Optional16 → Value
+abbrev pub optional : Optional16 → Option ℕ
 optional Absent = none
-optional (Present x) = one x
+optional (Present x) = some x
+
+abbrev pub isGiven : Optional16 → Bool
+isGiven Absent = false
+isGiven (Present x) = true
 
 -- "The bulk count is low + 65,536 times high, or low without bit 6": the high part is there where bit 6 is shared,
 -- and in a count that is too large for the low part
-abbrev pub high : ℕ → ℕ → Value
-high caps n = cond (hasBit caps 6 || ltb 65535 n) (one (n / 65536)) none
+abbrev pub high : ℕ → ℕ → Option ℕ
+high caps n = cond (hasBit caps 6 || ltb 65535 n) (some (n / 65536)) none
 
 -- an endpoint table has max packet and max streams, or not
 abbrev pub columnsOf : Bool → Bool → Bits → Bool
@@ -57,56 +65,70 @@ columnsOf packets streams (bit j) = packets
 columnsOf packets streams (bits j k) = streams
 
 abbrev pub shownOf : ℕ → Packet → Shown
-shownOf caps (Hello part) = carrying 0 [] part
-shownOf caps (Connect speed class subclass protocol vendor product version) = plain 1 (one speed ∷ one class ∷ one subclass ∷ one protocol ∷ one vendor ∷ one product ∷ optional version ∷ [])
+shownOf caps (Hello x) = record { kind = 0; front = []; rows = x .version; columns = λ b. true; rest = x .words }
+shownOf caps (Connect x) = plain 1 (some (x .speed) ∷ some (x .class) ∷ some (x .subclass) ∷ some (x .protocol) ∷ some (x .vendor) ∷ some (x .product) ∷ optional (x .version) ∷ [])
 shownOf caps Disconnect = plain 2 []
 shownOf caps Reset = plain 3 []
-shownOf caps (InterfaceTable count part) = carrying 4 (one count ∷ []) part
-shownOf caps (EndpointTable part packets streams) = record { kind = 5; front = []; part = part; columns = columnsOf packets streams }
-shownOf caps (SetConfiguration configuration) = plain 6 (one configuration ∷ [])
+shownOf caps (InterfaceTable x) = record { kind = 4; front = (some (x .count) ∷ []); rows = x .rows; columns = λ b. true; rest = noPart }
+shownOf caps (EndpointTable x) = record { kind = 5; front = []; rows = x .rows; columns = columnsOf (x .maxpacket) (x .maxstreams); rest = noPart }
+shownOf caps (SetConfiguration x) = plain 6 (some (x .configuration) ∷ [])
 shownOf caps GetConfiguration = plain 7 []
-shownOf caps (ConfigurationStatus status configuration) = plain 8 (one status ∷ one configuration ∷ [])
-shownOf caps (SetAlt interface alt) = plain 9 (one interface ∷ one alt ∷ [])
-shownOf caps (GetAlt interface) = plain 10 (one interface ∷ [])
-shownOf caps (AltStatus status interface alt) = plain 11 (one status ∷ one interface ∷ one alt ∷ [])
-shownOf caps (StartIso e packets urbs) = plain 12 (one (e .0) ∷ one packets ∷ one urbs ∷ [])
-shownOf caps (StopIso e) = plain 13 (one (e .0) ∷ [])
-shownOf caps (IsoStatus status e) = plain 14 (one status ∷ one (e .0) ∷ [])
-shownOf caps (StartInterrupt e) = plain 15 (one (e .0) ∷ [])
-shownOf caps (StopInterrupt e) = plain 16 (one (e .0) ∷ [])
-shownOf caps (InterruptStatus status e) = plain 17 (one status ∷ one (e .0) ∷ [])
-shownOf caps (AllocStreams mask count) = plain 18 (one mask ∷ one count ∷ [])
-shownOf caps (FreeStreams mask) = plain 19 (one mask ∷ [])
-shownOf caps (StreamsStatus mask count status) = plain 20 (one mask ∷ one count ∷ one status ∷ [])
+shownOf caps (ConfigurationStatus x) = plain 8 (some (x .status) ∷ some (x .configuration) ∷ [])
+shownOf caps (SetAlt x) = plain 9 (some (x .interface) ∷ some (x .alt) ∷ [])
+shownOf caps (GetAlt x) = plain 10 (some (x .interface) ∷ [])
+shownOf caps (AltStatus x) = plain 11 (some (x .status) ∷ some (x .interface) ∷ some (x .alt) ∷ [])
+shownOf caps (StartIso x) = plain 12 (some (x .endpoint .0) ∷ some (x .packets) ∷ some (x .urbs) ∷ [])
+shownOf caps (StopIso x) = plain 13 (some (x .endpoint .0) ∷ [])
+shownOf caps (IsoStatus x) = plain 14 (some (x .status) ∷ some (x .endpoint .0) ∷ [])
+shownOf caps (StartInterrupt x) = plain 15 (some (x .endpoint .0) ∷ [])
+shownOf caps (StopInterrupt x) = plain 16 (some (x .endpoint .0) ∷ [])
+shownOf caps (InterruptStatus x) = plain 17 (some (x .status) ∷ some (x .endpoint .0) ∷ [])
+shownOf caps (AllocStreams x) = plain 18 (some (x .mask) ∷ some (x .count) ∷ [])
+shownOf caps (FreeStreams x) = plain 19 (some (x .mask) ∷ [])
+shownOf caps (StreamsStatus x) = plain 20 (some (x .mask) ∷ some (x .count) ∷ some (x .status) ∷ [])
 shownOf caps Cancel = plain 21 []
 shownOf caps FilterReject = plain 22 []
-shownOf caps (Filter part) = carrying 23 [] part
+shownOf caps (Filter x) = carrying 23 [] (x .string)
 shownOf caps DisconnectAck = plain 24 []
-shownOf caps (StartBulkReceiving stream bytes e transfers) = plain 25 (one stream ∷ one bytes ∷ one (e .0) ∷ one transfers ∷ [])
-shownOf caps (StopBulkReceiving stream e) = plain 26 (one stream ∷ one (e .0) ∷ [])
-shownOf caps (BulkReceivingStatus stream e status) = plain 27 (one stream ∷ one (e .0) ∷ one status ∷ [])
-shownOf caps (Control e request requesttype status value index n part) = carrying 100 (one (e .0) ∷ one request ∷ one requesttype ∷ one status ∷ one value ∷ one index ∷ one n ∷ []) part
-shownOf caps (Bulk e status n stream part) = carrying 101 (one (e .0) ∷ one status ∷ one (n % 65536) ∷ one stream ∷ high caps n ∷ []) part
-shownOf caps (Iso e status n part) = carrying 102 (one (e .0) ∷ one status ∷ one n ∷ []) part
-shownOf caps (Interrupt e status n part) = carrying 103 (one (e .0) ∷ one status ∷ one n ∷ []) part
-shownOf caps (BufferedBulk stream n e status part) = carrying 104 (one stream ∷ one n ∷ one (e .0) ∷ one status ∷ []) part
+shownOf caps (StartBulkReceiving x) = plain 25 (some (x .stream) ∷ some (x .bytes) ∷ some (x .endpoint .0) ∷ some (x .transfers) ∷ [])
+shownOf caps (StopBulkReceiving x) = plain 26 (some (x .stream) ∷ some (x .endpoint .0) ∷ [])
+shownOf caps (BulkReceivingStatus x) = plain 27 (some (x .stream) ∷ some (x .endpoint .0) ∷ some (x .status) ∷ [])
+shownOf caps (Control x) = carrying 100 (some (x .endpoint .0) ∷ some (x .request) ∷ some (x .requesttype) ∷ some (x .status) ∷ some (x .value) ∷ some (x .index) ∷ some (x .length) ∷ []) (x .payload)
+shownOf caps (Bulk x) = carrying 101 (some (x .endpoint .0) ∷ some (x .status) ∷ some (x .length % 65536) ∷ some (x .stream) ∷ high caps (x .length) ∷ []) (x .payload)
+shownOf caps (Iso x) = carrying 102 (some (x .endpoint .0) ∷ some (x .status) ∷ some (x .length) ∷ []) (x .payload)
+shownOf caps (Interrupt x) = carrying 103 (some (x .endpoint .0) ∷ some (x .status) ∷ some (x .length) ∷ []) (x .payload)
+shownOf caps (BufferedBulk x) = carrying 104 (some (x .stream) ∷ some (x .length) ∷ some (x .endpoint .0) ∷ some (x .status) ∷ []) (x .payload)
 
--- the part of the body that a packet names, whatever is shared
-abbrev pub partNamed : Packet → Part
-partNamed p = shownOf 0 p .part
+-- the part that follows a packet's fields, whatever is shared
+abbrev pub restOf : Packet → Part
+restOf p = shownOf 0 p .rest
 
 abbrev pub isHello : Packet → Bool
 isHello p = eqb (shownOf 0 p .kind) 0
 
--- what a packet with its body says
-abbrev pub said : ℕ → Shown → List ℕ → Content
-said id s rows =
+-- ---- what a packet with its body says
+
+-- a field that is one number, there or not
+abbrev pub single : Option ℕ → Value
+single none = none
+single (some x) = one x
+
+-- the rows of a table of that many bytes; none where the part is not as long
+abbrev pub rowsIn : ℕ → List ℕ → List ℕ
+rowsIn n s = cond (eqb (length s) n) s []
+
+-- the fields that stand in a part of the body: cut short where the part is not as long as they are
+abbrev pub columnsIn : (Bits → Bool) → List Field → List ℕ → List Value
+columnsIn has fs s = split has fs (rowsIn (size has fs) s)
+
+abbrev pub said : ℕ → Shown → List ℕ → List ℕ → Content
+said id s rows rest =
     record {
       kind = s .kind;
       id = id;
-      fields = s .front ++ split (s .columns) (drop (length (s .front)) (layout (s .kind))) rows;
-      rest = drop (size (s .columns) (drop (length (s .front)) (layout (s .kind)))) rows;
+      fields = map single (s .front) ++ columnsIn (s .columns) (drop (length (s .front)) (layout (s .kind))) rows;
+      rest = rest;
     }
 
 unfoldable pub contentOf : ℕ → ℕ → Packet → List ℕ → Content
-contentOf caps id p body = said id (shownOf caps p) (inPart (shownOf caps p .part) body)
+contentOf caps id p body = said id (shownOf caps p) (inPart (shownOf caps p .rows) body) (inPart (shownOf caps p .rest) body)

@@ -4,7 +4,6 @@ use Prim.Native.Nat.{ℕ, zero, suc, _+_, _*_, _%_}
 use mathlib.Core.Path.{_≡_, refl}
 use mathlib.Core.Bool.{true, false}
 use mathlib.Core.List.{List, [], _∷_, _++_}
-use lib.ListN.{take, drop}
 use Rattle.packet.specs.declared.Part.{Part}
 use Rattle.packet.specs.declared.Optional16.the-variants.{Absent, Present}
 use Rattle.packet.specs.Packet.{inPart}
@@ -26,15 +25,15 @@ run (suc n) i = i % 256 ∷ run n (suc i)
 abbrev hello : List ℕ → List ℕ
 hello words = run 64 100 ++ words
 
-abbrev part : ℕ → Part
-part n = record { start = 0; end = n }
+abbrev part : ℕ → ℕ → Part
+part a e = record { start = a; end = e }
 
 -- the version and word i, as a hello of n bytes is read
 abbrev version : ℕ → List ℕ → List ℕ
-version n body = take 64 (inPart (part n) body)
+version n body = inPart (part 0 64) body
 
 abbrev word : ℕ → List ℕ → ℕ → Optional32
-word n body i = wordOf (drop 64 (inPart (part n) body)) i
+word n body i = wordOf (inPart (part 64 n) body) i
 
 -- with 8 words of the bytes 1 to 32, with 9, with one, with none
 pub hellos : (version 96 (hello (run 32 1)) ≡ run 64 100)
@@ -53,20 +52,21 @@ hellos = (refl, refl, refl, refl, refl, refl, refl, refl, refl, refl, refl)
 -- ---- "4: count u32, then 32 each of number, class, subclass, protocol."
 
 abbrev interface : ℕ → ℕ → ℕ → ℕ → InterfaceRow
-interface number class subclass protocol = record { number = number; class = class; subclass = subclass; protocol = protocol }
+interface number class subclass protocol = record { interface = number; class = class; subclass = subclass; protocol = protocol }
 
-pub interfaces : (interfaceRow (run 128 0) 0 ≡ interface 0 32 64 96)
-    × (interfaceRow (run 128 0) 31 ≡ interface 31 63 95 127)
-    × (interfaceRow (run 128 0) 32 ≡ interface 0 0 0 0)
+pub interfaces : (interfaceRow (record { count = 32; rows = part 0 128 }) (run 128 0) 0 ≡ interface 0 32 64 96)
+    × (interfaceRow (record { count = 32; rows = part 0 128 }) (run 128 0) 31 ≡ interface 31 63 95 127)
+    × (interfaceRow (record { count = 32; rows = part 0 128 }) (run 128 0) 32 ≡ interface 0 0 0 0)
+    × (interfaceRow (record { count = 32; rows = part 0 127 }) (run 128 0) 1 ≡ interface 0 0 0 0)
 unfolding interfaceRow layout kinds
-interfaces = (refl, refl, refl)
+interfaces = (refl, refl, refl, refl)
 
 -- ---- "5: 32 each of type, interval, interface, then max packet u16, max streams u32."
 
 -- row 17 of a table of n bytes; a table with max streams has max packet too
-pub endpoints : (endpointRow (run 96 0) false false 17 ≡ record { ty = 17; interval = 49; interface = 81; maxpacket = Absent; maxstreams = Absent32 })
-    × (endpointRow (run 160 0) true false 17 ≡ record { ty = 17; interval = 49; interface = 81; maxpacket = Present (130 + 256 * 131); maxstreams = Absent32 })
-    × (endpointRow (run 288 0) true true 17 ≡ record { ty = 17; interval = 49; interface = 81; maxpacket = Present (130 + 256 * 131); maxstreams = Present32 (228 + 256 * 229 + 65536 * 230 + 16777216 * 231) })
-    × (endpointRow (run 288 0) true true 32 ≡ record { ty = 0; interval = 0; interface = 0; maxpacket = Present 0; maxstreams = Present32 0 })
+pub endpoints : (endpointRow (record { rows = part 0 96; maxpacket = false; maxstreams = false }) (run 96 0) 17 ≡ record { ty = 17; interval = 49; interface = 81; maxpacket = Absent; maxstreams = Absent32 })
+    × (endpointRow (record { rows = part 0 160; maxpacket = true; maxstreams = false }) (run 160 0) 17 ≡ record { ty = 17; interval = 49; interface = 81; maxpacket = Present (130 + 256 * 131); maxstreams = Absent32 })
+    × (endpointRow (record { rows = part 0 288; maxpacket = true; maxstreams = true }) (run 288 0) 17 ≡ record { ty = 17; interval = 49; interface = 81; maxpacket = Present (130 + 256 * 131); maxstreams = Present32 (228 + 256 * 229 + 65536 * 230 + 16777216 * 231) })
+    × (endpointRow (record { rows = part 0 288; maxpacket = true; maxstreams = true }) (run 288 0) 32 ≡ record { ty = 0; interval = 0; interface = 0; maxpacket = Present 0; maxstreams = Present32 0 })
 unfolding endpointRow layout kinds
 endpoints = (refl, refl, refl, refl)

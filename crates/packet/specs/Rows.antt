@@ -8,11 +8,13 @@ use mathlib.Core.Option.{none, some}
 use lib.ListN.{length, getD, drop}
 use lib.Dec.{leb, ltb}
 use lib.Text.{eqt}
-use Rattle.number.specs.Little.{le}
+use Rattle.octets.specs.Little.{le}
 use Rattle.kinds.specs.Table.{Field}
 use Rattle.kinds.specs.Content.{Value, numbers, split}
 use Rattle.kinds.specs.Codec.{layout}
-use Rattle.packet.specs.Packet.{columnsOf, optional16Of}
+use Rattle.packet.specs.declared.InterfaceTable.{InterfaceTable}
+use Rattle.packet.specs.declared.EndpointTable.{EndpointTable}
+use Rattle.packet.specs.Packet.{inPart, rowsIn, columnsOf, columnsIn, optional16Of}
 use Rattle.packet.specs.declared.InterfaceRow.{InterfaceRow}
 use Rattle.packet.specs.declared.EndpointRow.{EndpointRow}
 use Rattle.packet.specs.declared.Optional32.{Optional32}
@@ -37,11 +39,11 @@ element n fs vs i = getD (column n fs vs) i 0
 abbrev pub interfaceFields : List Field
 interfaceFields = drop 1 (layout 4)
 
-unfoldable pub interfaceRow : List ℕ → ℕ → InterfaceRow
-interfaceRow rows i =
-    let vs : List Value = split (λ b. true) interfaceFields rows in
+unfoldable pub interfaceRow : InterfaceTable → List ℕ → ℕ → InterfaceRow
+interfaceRow t body i =
+    let vs : List Value = columnsIn (λ b. true) interfaceFields (inPart (t .rows) body) in
     record {
-      number = element "number" interfaceFields vs i;
+      interface = element "interface" interfaceFields vs i;
       class = element "class" interfaceFields vs i;
       subclass = element "subclass" interfaceFields vs i;
       protocol = element "protocol" interfaceFields vs i;
@@ -52,16 +54,19 @@ interfaceRow rows i =
 abbrev pub optional32Of : Bool → ℕ → Optional32
 optional32Of b x = cond b (Present x) Absent
 
-unfoldable pub endpointRow : List ℕ → Bool → Bool → ℕ → EndpointRow
-endpointRow rows packets streams i =
+abbrev pub tableSize : Bool → Bool → ℕ
+tableSize packets streams = cond packets (cond streams 288 160) (cond streams 224 96)
+
+unfoldable pub endpointRow : EndpointTable → List ℕ → ℕ → EndpointRow
+endpointRow t body i =
     let fs : List Field = layout 5 in
-    let vs : List Value = split (columnsOf packets streams) fs rows in
+    let vs : List Value = columnsIn (columnsOf (t .maxpacket) (t .maxstreams)) fs (inPart (t .rows) body) in
     record {
       ty = element "type" fs vs i;
       interval = element "interval" fs vs i;
       interface = element "interface" fs vs i;
-      maxpacket = optional16Of packets (element "max packet" fs vs i);
-      maxstreams = optional32Of streams (element "max streams" fs vs i);
+      maxpacket = optional16Of (t .maxpacket) (element "max packet" fs vs i);
+      maxstreams = optional32Of (t .maxstreams) (element "max streams" fs vs i);
     }
 
 -- ---- a hello's words: "n 0..8"

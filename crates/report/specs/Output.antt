@@ -13,11 +13,11 @@ use lib.ListN.{length, take, drop, length-take, take-append-drop}
 use lib.Seq.{length-sets, take-take, drop-drop}
 use lib.Dec.{ltb}
 use borrow.Author.Tests.{ltb-true, ltb-false}
-use Rattle.number.specs.Laws.{drop-take, take-sets}
-use Rattle.capture.specs.Laws.{totals-short}
-use Rattle.transcript.specs.declared.Next.the-variants.{Line}
+use Rattle.octets.proofs.Integers.{drop-take, take-sets}
+use Rattle.capture.proofs.LineLaws.{totals-short}
+use Rattle.transcript.specs.declared.NextLine.the-variants.{LineEnd}
 use Rattle.transcript.specs.Input.{Progress, linesOf, totalsOf, outputFrom, outputOf, nextOf, start as started}
-use Rattle.transcript.specs.Parts.{prints-short, next-within, first-line, last-wait}
+use Rattle.transcript.proofs.Parts.{prints-short, next-within, first-line, last-wait}
 use Rattle.report.specs.declared.State.{State}
 use Rattle.report.specs.Program.{Fits, unread, progress, lineStep, sizeWith, Prints, Memory, Steps, step-line, step-end, step-read, Turns, begin, turn, Reports}
 
@@ -60,13 +60,13 @@ steps-length (step-end e l s g h i o) = ap length o
 steps-length (step-read e l q g h o) = ap length o
 
 -- nothing is read after the input has ended
-read-none : {m n : Memory} (s : Steps m n) (more : List ℕ) → (n .state .last ≡ true → more ≡ []) → m .state .last ≡ true → readIn s ++ more ≡ []
+pub read-none : {m n : Memory} (s : Steps m n) (more : List ℕ) → (n .state .last ≡ true → more ≡ []) → m .state .last ≡ true → readIn s ++ more ≡ []
 read-none (step-line e q i) more h t = h (q .last ∙ t)
 read-none (step-end e l s g h i o) more z t = z (ap (λ (p : State). p .last) s ∙ t)
 read-none (step-read e l q g h o) more z t = absurd (false≢true (sym l ∙ t))
 
 -- after a bad line it is over
-bad-over : {m n : Memory} (s : Steps m n) → badIn s ≡ true → n .state .over ≡ true
+pub bad-over : {m n : Memory} (s : Steps m n) → badIn s ≡ true → n .state .over ≡ true
 bad-over (step-line e q i) t = q .over ∙ rw t
 bad-over (step-end e l s g h i o) t = absurd (false≢true t)
 bad-over (step-read e l q g h o) t = absurd (false≢true t)
@@ -74,7 +74,7 @@ bad-over (step-read e l q g h o) t = absurd (false≢true t)
 -- ---- lists
 
 -- the bytes behind a line and its newline
-behind-line : (l : List ℕ) (a b k : ℕ) → drop (suc k) (take (b - a) (drop a l)) ≡ take (b - min (a + k + 1) b) (drop (min (a + k + 1) b) l)
+pub behind-line : (l : List ℕ) (a b k : ℕ) → drop (suc k) (take (b - a) (drop a l)) ≡ take (b - min (a + k + 1) b) (drop (min (a + k + 1) b) l)
 behind-line l a b k = drop-take (suc k) (b - a) (drop a l) ∙ go (ltb b (a + k + 1)) refl
   where
     go : (t : Bool) → ltb b (a + k + 1) ≡ t → take (b - a - suc k) (drop (suc k) (drop a l)) ≡ take (b - min (a + k + 1) b) (drop (min (a + k + 1) b) l)
@@ -104,7 +104,7 @@ pending m = take (m .state .size) (m .out)
 
 module _ {m n : Memory} (f : Fits (m .state)) (lo : length (m .out) ≡ 262144) (more : List ℕ) (none-behind : n .state .last ≡ true → more ≡ []) where
   -- a line: what it prints is the first of what is still to come, and stands behind the output that was not written yet
-  line-keeps : {k : ℕ} → nextOf (unread (m .state) (m .input)) (m .state .last) ≡ Line k
+  line-keeps : {k : ℕ} → nextOf (unread (m .state) (m .input)) (m .state .last) ≡ LineEnd k
       → (q : Prints (m .state) k (m .guest) (m .host) (m .input) (m .out) (n .state) (n .guest) (n .host) (n .out)) → n .input ≡ m .input
       → pending m ++ outputFrom (progressOf m) (linesOf (unread (m .state) (m .input) ++ more))
       ≡ take (sizeWith (m .state) k (m .guest) (m .host) (m .input)) (n .out) ++ toCome (lineStep (m .state) k (m .guest) (m .host) (m .input) .bad) n more
@@ -175,7 +175,7 @@ turns-length : {m n : Memory} {k : ℕ} → Turns m n k → length (n .out) ≡ 
 turns-length begin = refl
 turns-length (turn t e s) = steps-length s ∙ turns-length t
 
-not-bad : {m n : Memory} {k : ℕ} (t : Turns m n k) → n .state .over ≡ false → badBy t ≡ false
+pub not-bad : {m n : Memory} {k : ℕ} (t : Turns m n k) → n .state .over ≡ false → badBy t ≡ false
 not-bad begin e = refl
 not-bad {n} (turn t w s) e = go (badIn s) (bad-over s)
   where
@@ -198,7 +198,7 @@ turns-keep {m} (turn {n} {o} t e s) f lo more h =
     ∙ ap (λ (x : List ℕ). writtenBy t ++ x) here
     ∙ sym (append-assoc (writtenBy t) (writtenIn s) (pending o ++ toCome (badIn s) o more))
 
-first-true : (a b : Bool) → (a || b) ≡ true → b ≡ false → a ≡ true
+pub first-true : (a b : Bool) → (a || b) ≡ true → b ≡ false → a ≡ true
 first-true true b e w = refl
 first-true false b e w = absurd (false≢true (sym w ∙ e))
 
@@ -224,7 +224,8 @@ ends-total (turn t e s) b over w more none-behind = step-total s e over w more n
 -- A run that is over, and in which no write failed, puts out what `transcript` defines for the whole input: the bytes that were read, and
 -- whatever follows them, nothing where the input has ended. Its turns hand the first part to C's write; the rest, with the totals, is the front
 -- of the output buffer at the end.
-pub whole-output : {input out guest-after host-after input-after out-after : List ℕ} (q : Reports input out guest-after host-after input-after out-after)
+pub whole-output : {input out errors guest-after host-after input-after out-after errors-after : List ℕ}
+    (q : Reports input out errors guest-after host-after input-after out-after errors-after)
     → length out ≡ 262144 → q .state .over ≡ true → failedBy (q .runs .turns) ≡ false → (more : List ℕ) → (q .state .last ≡ true → more ≡ [])
     → outputOf (readBy (q .runs .turns) ++ more)
     ≡ writtenBy (q .runs .turns) ++ take (q .state .size + length (totalsOf (progress (q .state) guest-after host-after))) out-after

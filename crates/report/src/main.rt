@@ -1,26 +1,34 @@
 // The report program: reads pieces from standard input, a line each, offers them to a session, and prints a line for each answer and then
-// the totals. It holds a part of the input and a part of the output, in buffers that do not grow.
+// the totals. It holds a part of the input and a part of the output, in buffers that do not grow. Standard error gets what went wrong.
 ghost use Prim.Native.Nat.{_+_, _≤_};
 ghost use mathlib.Core.Path.{_≡_};
-ghost use mathlib.Core.Bool.{true};
+ghost use mathlib.Core.Bool.{true, cond};
 ghost use lib.ListN.{length, take, drop};
 ghost use lib.Seq.{sets};
+ghost use Rattle.capture.specs.declared.Flaw.the-variants.{Nothing};
 ghost use Rattle.capture.specs.Lines.{totalsLine};
+ghost use Rattle.capture.specs.Flaws.{flawOf, errorLines};
 ghost use Rattle.transcript.specs.Input.{start as started};
-ghost use Rattle.report.specs.Program.{Fits, begun, movedOf, Prints, Writes, ReadsMore, memory, beginning, Steps, Runs, Reports};
+ghost use Rattle.report.specs.Program.{Fits, begun, movedOf, failedOf, Prints, Writes, ReadsMore, memory, beginning, Steps, Runs, Reports};
+use capture::Flaw;
+use capture::flaw_of;
+use capture::form_errors;
 use capture::form_totals;
+use header::HOLD_SIZE;
+use libc::STDERR_FILENO;
 use libc::STDIN_FILENO;
 use libc::STDOUT_FILENO;
-use number::minimum;
+use octets::minimum;
 use session::Session;
 use session::fresh_session;
-use transcript::Next;
+use transcript::NextLine;
 use transcript::Totals;
 use transcript::next_line;
 use transcript::report_line;
+use transcript::saturating_add;
 
 // The session and the totals; the unread bytes, from start to end of the input buffer, and whether no more come; the bytes of output that
-// are not written yet; and whether the input is over.
+// are not written yet; whether the input is over; the count of lines so far, and the flaw of the last; and whether a read failed, and a write.
 struct State {
     session: Session,
     totals: Totals,
@@ -29,6 +37,10 @@ struct State {
     last: bool,
     size: usize,
     over: bool,
+    lines: u64,
+    flaw: Flaw,
+    cut: bool,
+    lost: bool,
 }
 
 fn begin() -> State
@@ -47,6 +59,10 @@ fn begin() -> State
         last: false,
         size: 0,
         over: false,
+        lines: 0,
+        flaw: Flaw::Nothing,
+        cut: false,
+        lost: false,
     }
 }
 
@@ -59,6 +75,13 @@ fn moved(got: isize, most: usize) -> usize
     } else {
         0
     }
+}
+
+// Whether a call of C's failed.
+fn failed(told: isize) -> bool
+    ensures { λ r. ⌜ r ≡ failedOf told ⌝ }
+{
+    told < 0
 }
 
 // Moves n bytes from start on to the front.
@@ -82,21 +105,23 @@ fn read_more(p: State, input: &mut [u8]) -> State
     let n = p.end - start;
     shift(input, start, n);
     let room = input.len() - n;
-    let got = moved(libc::read(STDIN_FILENO, &mut input[n..]), room);
+    let told = libc::read(STDIN_FILENO, &mut input[n..]);
+    let got = moved(told, room);
     let mut next = p;
     next.start = 0;
     next.end = n + got;
     next.last = got == 0;
+    next.cut = failed(told);
     next
 }
 
 // Writes all of s, or tells that a write failed. Which bytes a write takes, and whether it fails, is C's alone; for no bytes there is none.
-fn write_all(s: &[u8]) -> bool
+fn write_all(fd: i32, s: &[u8]) -> bool
     ensures { λ r. ⌜ (length (now (s .entry)) ≡ 0 → r ≡ true) ⌝ }
 {
     let mut done: usize = 0;
     while done < s.len() {
-        let n = moved(libc::write(STDOUT_FILENO, &s[done..]), s.len() - done);
+        let n = moved(libc::write(fd, &s[done..]), s.len() - done);
         if n == 0 {
             return false;
         }
@@ -113,10 +138,22 @@ fn write_much(p: State, out: &[u8]) -> State
     let size = p.size;
     let mut next = p;
     if 22528 < size {
+        let failed = !write_all(STDOUT_FILENO, &out[..size]);
         next.size = 0;
-        next.over = p.over | !write_all(&out[..size]);
+        next.over = p.over | failed;
+        next.lost = p.lost | failed;
     }
     next
+}
+
+// The flaw of a line. It is looked for only where the line is bad.
+fn flaw_where(bad: bool, line: &[u8]) -> Flaw
+    ensures { λ r. ⌜ r ≡ cond bad (flawOf (now (line .entry))) Nothing ⌝ }
+{
+    if bad {
+        return flaw_of(line);
+    }
+    Flaw::Nothing
 }
 
 // Reports the line of k bytes with which the unread bytes begin.
@@ -147,6 +184,7 @@ fn print_line(
     let r = l.reported;
     let session = r.session;
     let totals = r.totals;
+    let flaw = flaw_where(l.bad, &input[start..end]);
     let next = State {
         session,
         totals,
@@ -155,6 +193,10 @@ fn print_line(
         last: p.last,
         size: size + r.size,
         over: l.bad,
+        lines: saturating_add(p.lines, 1),
+        flaw,
+        cut: p.cut,
+        lost: p.lost,
     };
     write_much(next, out)
 }
@@ -168,8 +210,8 @@ fn step(p: State, guest: &mut [u8], host: &mut [u8], input: &mut [u8], out: &mut
     let end = p.end;
     let n = next_line(&input[start..end], p.last);
     match n {
-        Next::Line(k) => print_line(p, k, guest, host, input, out),
-        Next::Wait => {
+        NextLine::LineEnd(k) => print_line(p, k, guest, host, input, out),
+        NextLine::Wait => {
             if p.last {
                 let mut next = p;
                 next.over = true;
@@ -194,8 +236,8 @@ fn run(guest: &mut [u8], host: &mut [u8], input: &mut [u8], out: &mut [u8]) -> S
     p
 }
 
-// Prints the totals behind the output that is not written yet.
-fn print_totals(p: State, out: &mut [u8])
+// Prints the totals behind the output that is not written yet, or tells that a write failed.
+fn print_totals(p: State, out: &mut [u8]) -> bool
     requires { ⌜ Fits p × (length (now out) ≡ 262144) ⌝ }
     ensures { λ _. ⌜ now (out .exit) ≡ sets (now (out .entry)) (p .size) (totalsLine (p .totals .passed) (p .totals .refused) (p .session .head .stopped)) ⌝ }
 {
@@ -204,22 +246,40 @@ fn print_totals(p: State, out: &mut [u8])
     let head = session.head;
     let size = p.size;
     let n = form_totals(out, size, totals.passed, totals.refused, head.stopped);
-    write_all(&out[..size + n]);
+    write_all(STDOUT_FILENO, &out[..size + n])
+}
+
+// Says on standard error what went wrong, if anything did.
+fn tell_errors(p: State, lost: bool, errors: &mut [u8])
+    requires { ⌜ length (now errors) ≡ 256 ⌝ }
+    ensures { λ _. ⌜ now (errors .exit) ≡ sets (now (errors .entry)) 0 (errorLines (p .lines) (p .flaw) (p .cut) lost) ⌝ }
+{
+    let flaw = p.flaw;
+    let n = form_errors(errors, p.lines, flaw, p.cut, lost);
+    write_all(STDERR_FILENO, &errors[..n]);
 }
 
 // Reports the whole input.
-fn report_input(guest: &mut [u8], host: &mut [u8], input: &mut [u8], out: &mut [u8])
-    requires { ⌜ (now guest ≡ started .guest) × (now host ≡ started .host) × (length (now input) ≡ 65536) × (length (now out) ≡ 262144) ⌝ }
-    ensures { λ _. ⌜ Reports (now (input .entry)) (now (out .entry)) (now (guest .exit)) (now (host .exit)) (now (input .exit)) (now (out .exit)) ⌝ }
+fn report_input(
+    guest: &mut [u8],
+    host: &mut [u8],
+    input: &mut [u8],
+    out: &mut [u8],
+    errors: &mut [u8],
+)
+    requires { ⌜ (now guest ≡ started .guest) × (now host ≡ started .host) × (length (now input) ≡ 65536) × (length (now out) ≡ 262144) × (length (now errors) ≡ 256) ⌝ }
+    ensures { λ _. ⌜ Reports (now (input .entry)) (now (out .entry)) (now (errors .entry)) (now (guest .exit)) (now (host .exit)) (now (input .exit)) (now (out .exit)) (now (errors .exit)) ⌝ }
 {
     let p = run(guest, host, input, out);
-    print_totals(p, out);
+    let written = print_totals(p, out);
+    tell_errors(p, p.lost | !written, errors);
 }
 
 fn main() {
-    let mut guest = [0u8; 32784];
-    let mut host = [0u8; 32784];
+    let mut guest = [0u8; HOLD_SIZE];
+    let mut host = [0u8; HOLD_SIZE];
     let mut input = [0u8; 65536];
     let mut out = [0u8; 262144];
-    report_input(&mut guest, &mut host, &mut input, &mut out);
+    let mut errors = [0u8; 256];
+    report_input(&mut guest, &mut host, &mut input, &mut out, &mut errors);
 }

@@ -14,9 +14,9 @@ use Rattle.scan.specs.Scan.{firstAt, exists, tabulated, putAt}
 use Rattle.requests.specs.declared.Request.{Request}
 use Rattle.requests.specs.declared.Slot.{Slot}
 use Rattle.requests.specs.declared.Requests.{Requests}
-use Rattle.requests.specs.declared.Answers.{Answers}
-use Rattle.requests.specs.declared.Found.{Found}
-use Rattle.requests.specs.declared.Found.the-variants.{At, Nowhere}
+use Rattle.requests.specs.declared.Answerable.{Answerable}
+use Rattle.requests.specs.declared.FoundPlace.{FoundPlace}
+use Rattle.requests.specs.declared.FoundPlace.the-variants.{AtPlace, NoPlace}
 
 -- ---- places
 
@@ -44,12 +44,15 @@ abbrev pub slotOf : Request → Slot
 slotOf r = record { length = r .length; target = r .target }
 
 -- "a table of 96 places for requests, all free"
+abbrev pub places : ℕ
+places = 96
+
 unfoldable pub freshRequests : Requests
-freshRequests = record { used = 0; live = replicate 96 false; kinds = replicate 96 0; ids = replicate 96 0; slots = replicate 96 freeSlot }
+freshRequests = record { used = 0; live = replicate places false; kinds = replicate places 0; ids = replicate places 0; slots = replicate places freeSlot }
 
 -- live places lie below this
 abbrev pub usedOf : Requests → ℕ
-usedOf t = cond (leb (t .used) 96) (t .used) 96
+usedOf t = cond (leb (t .used) places) (t .used) places
 
 abbrev pub isLive : Requests → ℕ → Bool
 isLive t i = ltb i (usedOf t) && getD (t .live) i false
@@ -64,7 +67,7 @@ placeAt t i = cond (isLive t i) (taken (requestAt t i)) freePlace
 
 -- the 96 places
 unfoldable pub placesOf : Requests → List Place
-placesOf t = tabulated (placeAt t) 0 96
+placesOf t = tabulated (placeAt t) 0 places
 
 -- ---- what is looked for
 
@@ -76,7 +79,7 @@ abbrev pub isData : ℕ → Bool
 isData kind = eqb kind 100 || eqb kind 101 || eqb kind 103
 
 -- "Id and, where both carry one, the endpoint or interface must match", and the request is of a kind that the reply answers
-abbrev pub answers : Request → Answers → Request → Bool
+abbrev pub answers : Request → Answerable → Request → Bool
 answers reply a q =
     eqb (q .id) (reply .id) && (eqb (q .kind) (a .first) || eqb (q .kind) (a .second)) && (not (a .targeted) || eqb (q .target) (reply .target))
 
@@ -87,7 +90,7 @@ pub data Query : Type 0 where
   -- a live set configuration or set alt
   Settling : Query
   -- a live request that this reply answers
-  Answered : Request → Answers → Query
+  Answered : Request → Answerable → Query
 
 abbrev pub meets : Query → Place → Bool
 meets Free p = not (p .live)
@@ -107,9 +110,9 @@ abbrev pub isSome : Option ℕ → Bool
 isSome none = false
 isSome (some i) = true
 
-abbrev pub foundAt : Found → Option ℕ
-foundAt (At i) = some i
-foundAt Nowhere = none
+abbrev pub foundAt : FoundPlace → Option ℕ
+foundAt (AtPlace i) = some i
+foundAt NoPlace = none
 
 -- ---- taking and freeing
 
@@ -117,11 +120,11 @@ foundAt Nowhere = none
 unfoldable pub withRequest : Requests → ℕ → Request → Requests
 withRequest t i r =
     record {
-      used = cond (ltb i (t .used) || leb 96 i) (t .used) (suc i);
-      live = putAt 96 false (t .live) i true;
-      kinds = putAt 96 0 (t .kinds) i (r .kind);
-      ids = putAt 96 0 (t .ids) i (r .id);
-      slots = putAt 96 freeSlot (t .slots) i (slotOf r);
+      used = cond (ltb i (t .used) || leb places i) (t .used) (suc i);
+      live = putAt places false (t .live) i true;
+      kinds = putAt places 0 (t .kinds) i (r .kind);
+      ids = putAt places 0 (t .ids) i (r .id);
+      slots = putAt places freeSlot (t .slots) i (slotOf r);
     }
 
 -- the lowest number of places, at most n, that has all the live ones
@@ -133,11 +136,11 @@ trimmed live (suc n) = cond (getD live n false) (suc n) (trimmed live n)
 unfoldable pub without : Requests → (ℕ → Bool) → Requests
 without t f =
     record {
-      used = trimmed (tabulated (λ (i : ℕ). cond (f i) false (getD (t .live) i false)) 0 96) (usedOf t);
-      live = tabulated (λ (i : ℕ). cond (f i) false (getD (t .live) i false)) 0 96;
-      kinds = tabulated (λ (i : ℕ). cond (f i) 0 (getD (t .kinds) i 0)) 0 96;
-      ids = tabulated (λ (i : ℕ). cond (f i) 0 (getD (t .ids) i 0)) 0 96;
-      slots = tabulated (λ (i : ℕ). cond (f i) freeSlot (getD (t .slots) i freeSlot)) 0 96;
+      used = trimmed (tabulated (λ (i : ℕ). cond (f i) false (getD (t .live) i false)) 0 places) (usedOf t);
+      live = tabulated (λ (i : ℕ). cond (f i) false (getD (t .live) i false)) 0 places;
+      kinds = tabulated (λ (i : ℕ). cond (f i) 0 (getD (t .kinds) i 0)) 0 places;
+      ids = tabulated (λ (i : ℕ). cond (f i) 0 (getD (t .ids) i 0)) 0 places;
+      slots = tabulated (λ (i : ℕ). cond (f i) freeSlot (getD (t .slots) i freeSlot)) 0 places;
     }
 
 -- "A passed reply frees the place."

@@ -7,11 +7,14 @@ ghost use lib.Dec.{eqb, leb, ltb};
 ghost use Rattle.scan.specs.Scan.{exists, tabulated};
 ghost use Rattle.device.specs.Device.{touched};
 ghost use Rattle.requests.specs.declared.Requests.{Requests};
-ghost use Rattle.requests.specs.Requests.{freeSlot, slotOf, freshRequests, isData, isSome, Free, Id, Settling, placeAt, lowest, foundAt, withRequest, trimmed, without, freed, ends, released, cleared, same, distinct, idsDiffer};
+ghost use Rattle.requests.specs.Requests.{places, freeSlot, slotOf, freshRequests, isData, isSome, Free, Id, Settling, placeAt, lowest, foundAt, withRequest, trimmed, without, freed, ends, released, cleared, same, distinct, idsDiffer};
 use device::Rows;
 use device::Scope;
 use device::touches_endpoint;
 use endpoint::Endpoint;
+
+// The places of the table.
+pub const PLACES: usize = 96;
 
 // What is kept of a request; a packet that has no endpoint, interface or length gives 0 for it.
 pub struct Request {
@@ -33,22 +36,22 @@ pub struct Slot {
 pub struct Requests {
     // live places lie below it; over 96 it reads as 96
     pub used: usize,
-    pub live: [bool; 96],
-    pub kinds: [u8; 96],
-    pub ids: [u64; 96],
-    pub slots: [Slot; 96],
+    pub live: [bool; PLACES],
+    pub kinds: [u8; PLACES],
+    pub ids: [u64; PLACES],
+    pub slots: [Slot; PLACES],
 }
 
 // Which requests a reply answers: those of one of two kinds, and of the reply's own endpoint or interface where it has one.
-pub struct Answers {
+pub struct Answerable {
     pub first: u8,
     pub second: u8,
     pub targeted: bool,
 }
 
-pub enum Found {
-    At(usize),
-    Nowhere,
+pub enum FoundPlace {
+    AtPlace(usize),
+    NoPlace,
 }
 
 pub fn free_slot() -> Slot
@@ -75,10 +78,10 @@ pub fn fresh() -> Requests
     ensures { λ r. ⌜ r ≡ freshRequests ⌝ }
 {
     let f = free_slot();
-    let live: [bool; 96] = [false; 96];
-    let kinds: [u8; 96] = [0; 96];
-    let ids: [u64; 96] = [0; 96];
-    let slots = [f; 96];
+    let live: [bool; PLACES] = [false; PLACES];
+    let kinds: [u8; PLACES] = [0; PLACES];
+    let ids: [u64; PLACES] = [0; PLACES];
+    let slots = [f; PLACES];
     Requests {
         used: 0,
         live,
@@ -90,43 +93,52 @@ pub fn fresh() -> Requests
 
 // The places that are gone over, at most 96.
 fn bound(used: usize) -> usize
-    ensures { λ r. ⌜ (r ≡ cond (leb used 96) used 96) × (r ≤ 96) ⌝ }
+    ensures { λ r. ⌜ (r ≡ cond (leb used places) used places) × (r ≤ places) ⌝ }
 {
-    if used <= 96 { used } else { 96 }
+    if used <= PLACES { used } else { PLACES }
 }
 
 // The lowest place of a live request with this id.
-pub fn find_id<'a>(used: usize, live: &'a [bool; 96], ids: &'a [u64; 96], id: u64) -> Found
+pub fn find_id<'a>(
+    used: usize,
+    live: &'a [bool; PLACES],
+    ids: &'a [u64; PLACES],
+    id: u64,
+) -> FoundPlace
     ensures { λ r. ⌜ ((t : Requests) → t .used ≡ used → t .live ≡ now (live .entry) → t .ids ≡ now (ids .entry) → foundAt r ≡ lowest t (Id id)) ⌝ }
 {
     let n = bound(used);
     let mut i: usize = 0;
     while i < n {
         if live[i] & (ids[i] == id) {
-            return Found::At(i);
+            return FoundPlace::AtPlace(i);
         }
         i += 1;
     }
-    Found::Nowhere
+    FoundPlace::NoPlace
 }
 
 // The lowest free place.
-pub fn find_free(used: usize, live: &[bool; 96]) -> Found
+pub fn find_free(used: usize, live: &[bool; PLACES]) -> FoundPlace
     ensures { λ r. ⌜ ((t : Requests) → t .used ≡ used → t .live ≡ now (live .entry) → foundAt r ≡ lowest t Free) ⌝ }
 {
     let n = bound(used);
     let mut i: usize = 0;
     while i < n {
         if !live[i] {
-            return Found::At(i);
+            return FoundPlace::AtPlace(i);
         }
         i += 1;
     }
-    if n < 96 { Found::At(n) } else { Found::Nowhere }
+    if n < PLACES {
+        FoundPlace::AtPlace(n)
+    } else {
+        FoundPlace::NoPlace
+    }
 }
 
 // A set configuration or set alt waits.
-pub fn is_settling<'a>(used: usize, live: &'a [bool; 96], kinds: &'a [u8; 96]) -> bool
+pub fn is_settling<'a>(used: usize, live: &'a [bool; PLACES], kinds: &'a [u8; PLACES]) -> bool
     ensures { λ r. ⌜ ((t : Requests) → t .used ≡ used → t .live ≡ now (live .entry) → t .kinds ≡ now (kinds .entry) → r ≡ isSome (lowest t Settling)) ⌝ }
 {
     let n = bound(used);
@@ -141,7 +153,7 @@ pub fn is_settling<'a>(used: usize, live: &'a [bool; 96], kinds: &'a [u8; 96]) -
 }
 
 // The kind of the request at place i, 0 past the last.
-pub fn kind_at(kinds: &[u8; 96], i: usize) -> u8
+pub fn kind_at(kinds: &[u8; PLACES], i: usize) -> u8
     ensures { λ r. ⌜ r ≡ getD (now (kinds .entry)) i 0 ⌝ }
 {
     let all = &kinds[..];
@@ -152,14 +164,18 @@ pub fn kind_at(kinds: &[u8; 96], i: usize) -> u8
 pub fn slot_of(t: Requests, i: usize) -> Slot
     ensures { λ r. ⌜ r ≡ getD (t .slots) i freeSlot ⌝ }
 {
-    if i < 96 { t.slots[i] } else { free_slot() }
+    if i < PLACES { t.slots[i] } else { free_slot() }
 }
 
 // What the live places lie below once place i is taken.
 pub fn used_with(used: usize, i: usize) -> usize
-    ensures { λ r. ⌜ r ≡ cond (ltb i used || leb 96 i) used (suc i) ⌝ }
+    ensures { λ r. ⌜ r ≡ cond (ltb i used || leb places i) used (suc i) ⌝ }
 {
-    if (i < used) | (96 <= i) { used } else { i + 1 }
+    if (i < used) | (PLACES <= i) {
+        used
+    } else {
+        i + 1
+    }
 }
 
 // A request takes place i; nothing changes past the last.
@@ -167,7 +183,7 @@ pub fn take(t: Requests, i: usize, r: Request) -> Requests
     ensures { λ u. ⌜ u ≡ withRequest t i r ⌝ }
 {
     let mut u = t;
-    if i < 96 {
+    if i < PLACES {
         u.used = used_with(t.used, i);
         u.live[i] = true;
         u.kinds[i] = r.kind;
@@ -178,8 +194,8 @@ pub fn take(t: Requests, i: usize, r: Request) -> Requests
 }
 
 // What the live places lie below, where they lie below `used`.
-pub fn trim(used: usize, live: &[bool; 96]) -> usize
-    ensures { λ r. ⌜ r ≡ trimmed (now (live .entry)) (cond (leb used 96) used 96) ⌝ }
+pub fn trim(used: usize, live: &[bool; PLACES]) -> usize
+    ensures { λ r. ⌜ r ≡ trimmed (now (live .entry)) (cond (leb used places) used places) ⌝ }
 {
     let mut n = bound(used);
     while 0 < n {
@@ -196,7 +212,7 @@ pub fn free(t: Requests, i: usize) -> Requests
     ensures { λ r. ⌜ r ≡ freed t i ⌝ }
 {
     let mut u = t;
-    if i < 96 {
+    if i < PLACES {
         u.live[i] = false;
         u.kinds[i] = 0;
         u.ids[i] = 0;
@@ -207,13 +223,13 @@ pub fn free(t: Requests, i: usize) -> Requests
 }
 
 // These places are free.
-fn free_these(t: Requests, these: [bool; 96]) -> Requests
+fn free_these(t: Requests, these: [bool; PLACES]) -> Requests
     ensures { λ r. ⌜ r ≡ without t (λ (j : ℕ). getD these j false) ⌝ }
 {
     let mut u = t;
     let f = free_slot();
     let mut i: usize = 0;
-    while i < 96 {
+    while i < PLACES {
         if these[i] {
             u.live[i] = false;
             u.kinds[i] = 0;
@@ -235,13 +251,13 @@ fn is_ending(rows: Rows, s: Scope, kind: u8, target: u8) -> bool
 }
 
 // Place i, and the places of the data requests on the rows in scope.
-fn ending(t: Requests, i: usize, rows: Rows, s: Scope) -> [bool; 96]
-    ensures { λ r. ⌜ r ≡ tabulated (λ (j : ℕ). eqb j i || ends rows s (placeAt t j)) 0 96 ⌝ }
+fn ending(t: Requests, i: usize, rows: Rows, s: Scope) -> [bool; PLACES]
+    ensures { λ r. ⌜ r ≡ tabulated (λ (j : ℕ). eqb j i || ends rows s (placeAt t j)) 0 places ⌝ }
 {
     let n = bound(t.used);
-    let mut these: [bool; 96] = [false; 96];
+    let mut these: [bool; PLACES] = [false; PLACES];
     let mut k: usize = 0;
-    while k < 96 {
+    while k < PLACES {
         let slot = t.slots[k];
         these[k] = (k == i) | ((k < n) & t.live[k] & is_ending(rows, s, t.kinds[k], slot.target));
         k += 1;
@@ -257,13 +273,13 @@ pub fn release(t: Requests, i: usize, rows: Rows, s: Scope) -> Requests
 }
 
 // The live places.
-fn living(t: Requests) -> [bool; 96]
-    ensures { λ r. ⌜ r ≡ tabulated (λ (j : ℕ). placeAt t j .live) 0 96 ⌝ }
+fn living(t: Requests) -> [bool; PLACES]
+    ensures { λ r. ⌜ r ≡ tabulated (λ (j : ℕ). placeAt t j .live) 0 places ⌝ }
 {
     let n = bound(t.used);
-    let mut these: [bool; 96] = [false; 96];
+    let mut these: [bool; PLACES] = [false; PLACES];
     let mut k: usize = 0;
-    while k < 96 {
+    while k < PLACES {
         these[k] = (k < n) & t.live[k];
         k += 1;
     }
@@ -306,14 +322,14 @@ fn all_differ(ids: &[u64]) -> bool
 }
 
 // No two live requests have one id. The ids are gathered first: few requests live at a time.
-pub fn ids_differ<'a>(used: usize, live: &'a [bool; 96], ids: &'a [u64; 96]) -> bool
+pub fn ids_differ<'a>(used: usize, live: &'a [bool; PLACES], ids: &'a [u64; PLACES]) -> bool
     ensures { λ r. ⌜ ((t : Requests) → t .used ≡ used → t .live ≡ now (live .entry) → t .ids ≡ now (ids .entry) → r ≡ idsDiffer t) ⌝ }
 {
     let n = bound(used);
     if n < 2 {
         return true;
     }
-    let mut gathered: [u64; 96] = [0; 96];
+    let mut gathered: [u64; PLACES] = [0; PLACES];
     let mut k: usize = 0;
     let mut i: usize = 0;
     while i < n {

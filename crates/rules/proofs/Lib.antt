@@ -1,5 +1,3 @@
 pub mod EachKind
 pub mod Turns
-pub mod Place
-pub mod Words
-pub mod Number
+pub mod NumberFound

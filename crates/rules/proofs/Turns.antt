@@ -12,9 +12,11 @@ use native.Mathlib.Omega.{arith}
 use borrow.Author.Tests.{ne-eqb, eq-eqb}
 use lib.ListN.{length, getD, drop, drop-of-length-le}
 use lib.Seq.{drop-cons}
-use Rattle.number.specs.Little.{le}
+use Rattle.octets.specs.Little.{le}
 use Rattle.kinds.specs.Number.{zeroAt}
-use Rattle.rules.specs.Facts.{typeOk, typePlace}
+use Rattle.rules.specs.declared.Fault.{Fault}
+use Rattle.rules.specs.declared.Fault.the-variants.{At}
+use Rattle.rules.specs.Findings.{typeOk, typeFault}
 
 -- ---- the first zero byte
 
@@ -32,17 +34,17 @@ zero-none s i h k = rw (drop-of-length-le s h) (omega arith)
 
 -- ---- the rows of an endpoint table
 
-type-step : (rows : List ℕ) (i next : ℕ) → i < 32
-    → typePlace rows (32 - i) i next ≡ cond (typeOk i (le 1 rows i)) (typePlace rows (32 - (i + 1)) (i + 1) next) i
+type-step : (rows : List ℕ) (i : ℕ) (next : Fault) → i < 32
+    → typeFault rows (32 - i) i next ≡ cond (typeOk i (le 1 rows i)) (typeFault rows (32 - (i + 1)) (i + 1) next) (At i)
 type-step rows i next h =
     let e : 32 - i ≡ suc (32 - (i + 1)) = omega arith in
-    rw e (ap (λ (m : ℕ). cond (typeOk i (le 1 rows i)) (typePlace rows (32 - (i + 1)) m next) i) (sym (add-one i)))
+    rw e (ap (λ (m : ℕ). cond (typeOk i (le 1 rows i)) (typeFault rows (32 - (i + 1)) m next) (At i)) (sym (add-one i)))
 
 -- row i's type is one: look on from there
-pub type-more : (rows : List ℕ) (i next : ℕ) → i < 32 → typeOk i (le 1 rows i) ≡ true
-    → typePlace rows (32 - i) i next ≡ typePlace rows (32 - (i + 1)) (i + 1) next
-type-more rows i next h t = type-step rows i next h ∙ ap (λ (b : Bool). cond b (typePlace rows (32 - (i + 1)) (i + 1) next) i) t
+pub type-more : (rows : List ℕ) (i : ℕ) (next : Fault) → i < 32 → typeOk i (le 1 rows i) ≡ true
+    → typeFault rows (32 - i) i next ≡ typeFault rows (32 - (i + 1)) (i + 1) next
+type-more rows i next h t = type-step rows i next h ∙ ap (λ (b : Bool). cond b (typeFault rows (32 - (i + 1)) (i + 1) next) (At i)) t
 
 -- row i's type is none
-pub type-here : (rows : List ℕ) (i next : ℕ) → i < 32 → typeOk i (le 1 rows i) ≡ false → typePlace rows (32 - i) i next ≡ i
-type-here rows i next h t = type-step rows i next h ∙ ap (λ (b : Bool). cond b (typePlace rows (32 - (i + 1)) (i + 1) next) i) t
+pub type-here : (rows : List ℕ) (i : ℕ) (next : Fault) → i < 32 → typeOk i (le 1 rows i) ≡ false → typeFault rows (32 - i) i next ≡ At i
+type-here rows i next h t = type-step rows i next h ∙ ap (λ (b : Bool). cond b (typeFault rows (32 - (i + 1)) (i + 1) next) (At i)) t

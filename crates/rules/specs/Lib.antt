@@ -1,1 +1,1 @@
-pub mod Facts
+pub mod Findings

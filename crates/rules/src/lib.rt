@@ -1,85 +1,106 @@
-// The wire checks of one packet: what each kind's rules say of its fields, and the number.
+// The wire checks 21 to 24 and 13 of one packet with its body: what each kind's rules say of its fields, and the number.
 ghost use mathlib.Core.Path.{_≡_};
+ghost use mathlib.Core.List.{List};
 ghost use mathlib.Core.Bool.{cond, not, _&&_, _||_, true, false};
-ghost use Prim.Native.Nat.{ℕ, _+_, _≤_, _/_};
+ghost use Prim.Native.Nat.{ℕ, _≤_, _<_, _/_, _^_};
 ghost use lib.ListN.{length};
 ghost use lib.Dec.{leb, eqb};
-ghost use Rattle.number.specs.Little.{le};
-ghost use Rattle.number.specs.Bits.{hasBit};
-ghost use Rattle.header.specs.Link.{sharedSet};
-ghost use Rattle.kinds.specs.Number.{isGuest, onward, addressOk, zeroAt, inOrder, wireNumber};
+ghost use Rattle.octets.specs.Little.{le};
+ghost use Rattle.octets.specs.Bits.{hasBit};
+ghost use Rattle.header.specs.declared.Side.{Side};
+ghost use Rattle.header.specs.Link.{isGuest, sharedSet};
+ghost use Rattle.kinds.specs.Number.{onward, addressOk, zeroAt, inOrder, wireNumber};
 ghost use Rattle.packet.specs.declared.Packet.{Packet};
-ghost use Rattle.packet.specs.declared.Packet.the-variants.{Control, Bulk, Iso, Interrupt, BufferedBulk};
-ghost use Rattle.packet.specs.Packet.{inPart, contentOf};
-ghost use Rattle.rules.specs.Facts.{Shows, numberBy, factsOf, isGiven, typePlace, mayFollow, noId, typeOk, helloFacts, connectFacts, endpointFacts, filterFacts, controlFacts, bulkFacts, isoFacts, interruptFacts, bufferedFacts};
+ghost use Rattle.packet.specs.declared.Packet.the-variants as packets;
+ghost use Rattle.packet.specs.Packet.{contentOf};
+ghost use Rattle.rules.specs.declared.Fault.the-variants.{None, At};
+ghost use Rattle.rules.specs.Findings.{Finds, findings, missized, isFault, noId, typeOk, typeFault};
 use endpoint::Endpoint;
 use endpoint::is_address;
 use endpoint::is_in;
 use header::Link;
 use header::Side;
+use header::is_guest;
 use header::shared_set;
-use kinds::is_guest;
 use kinds::is_shared;
 use kinds::may_send;
-use number::choose;
-use number::get8;
-use number::get32;
-use number::has_bit;
-use number::saturating_sub;
-use packet::Optional16;
+use octets::get8;
+use octets::get32;
+use octets::has_bit;
+use packet::BufferedBulk;
+use packet::Bulk;
+use packet::Connect;
+use packet::Control;
+use packet::EndpointTable;
+use packet::Filter;
+use packet::Hello;
+use packet::InterfaceTable;
+use packet::Interrupt;
+use packet::Iso;
 use packet::Packet;
-use packet::Part;
+use packet::is_given;
 use packet::part_of;
+use packet::table_size;
 
-// What the checks go by, of one packet under a shared set.
-pub struct Facts {
+// Where the first field that breaks its rule starts in the body, 65,535 for the id; `None` where each keeps its own.
+enum Fault {
+    None,
+    At(u16),
+}
+
+// What the checks find of one packet under a shared set.
+struct Findings {
     // its kind's place in the table
-    pub slot: usize,
-    // the bytes of the fields that the packet holds as numbers
-    pub head: usize,
-    // the part of the body behind these
-    pub rest: Part,
-    // the bytes of fields in that part
-    pub table: usize,
-    // the bytes of data that have to follow the fields
-    pub payload: u32,
+    slot: usize,
     // a field is there that the shared set leaves out
-    pub surplus: bool,
-    // where the first field that breaks a rule starts in the body: 65,535 for the id, 65,536 where none does
-    pub bad: usize,
+    surplus: bool,
+    // the body has the size that its kind and its fields say
+    sized: bool,
+    fault: Fault,
+    // a hello offers bit 0 without bit 4
+    alone: bool,
 }
 
 // The place of a field that breaks its rule, else what comes after it.
-fn checked(ok: bool, place: usize, next: usize) -> usize
-    ensures { λ r. ⌜ r ≡ cond ok next place ⌝ }
+fn checked(ok: bool, place: u16, next: Fault) -> Fault
+    ensures { λ r. ⌜ r ≡ cond ok next (At place) ⌝ }
 {
-    if ok { next } else { place }
+    if ok { next } else { Fault::At(place) }
+}
+
+fn is_fault(f: Fault) -> bool
+    ensures { λ r. ⌜ r ≡ isFault f ⌝ }
+{
+    match f {
+        Fault::None => false,
+        Fault::At(_) => true,
+    }
 }
 
 // "Id is 0 in kinds .."
-fn zero_id(id: u64) -> usize
+fn zero_id(id: u64) -> Fault
     ensures { λ r. ⌜ r ≡ noId id ⌝ }
 {
-    checked(id == 0, 65535, 65536)
+    checked(id == 0, 65535, Fault::None)
 }
 
 // "A host's status is 0 to 6; a guest's is any byte."
-fn status_at(from: Side, status: u8, place: usize, next: usize) -> usize
-    ensures { λ r. ⌜ r ≡ cond (isGuest from || leb status 6) next place ⌝ }
+fn status_at(from: Side, status: u8, place: u16, next: Fault) -> Fault
+    ensures { λ r. ⌜ r ≡ cond (isGuest from || leb status 6) next (At place) ⌝ }
 {
     checked(is_guest(from) | (status <= 6), place, next)
 }
 
 // An endpoint of either direction.
-fn endpoint_at(endpoint: Endpoint, place: usize, next: usize) -> usize
-    ensures { λ r. ⌜ r ≡ cond (addressOk (endpoint .0)) next place ⌝ }
+fn endpoint_at(endpoint: Endpoint, place: u16, next: Fault) -> Fault
+    ensures { λ r. ⌜ r ≡ cond (addressOk (endpoint .0)) next (At place) ⌝ }
 {
     checked(is_address(endpoint), place, next)
 }
 
 // An endpoint that has to be IN.
-fn in_at(endpoint: Endpoint, place: usize, next: usize) -> usize
-    ensures { λ r. ⌜ r ≡ cond (addressOk (endpoint .0) && eqb (endpoint .0 / 128) 1) next place ⌝ }
+fn in_at(endpoint: Endpoint, place: u16, next: Fault) -> Fault
+    ensures { λ r. ⌜ r ≡ cond (addressOk (endpoint .0) && eqb (endpoint .0 / 128) 1) next (At place) ⌝ }
 {
     checked(is_address(endpoint) & is_in(endpoint), place, next)
 }
@@ -128,106 +149,105 @@ fn is_type(i: usize, t: u8) -> bool
 }
 
 // The first of the 32 endpoint types that is none, else what comes after them.
-fn type_at(rows: &[u8], next: usize) -> usize
-    ensures { λ r. ⌜ r ≡ typePlace (now (rows .entry)) 32 0 next ⌝ }
+fn type_at(rows: &[u8], next: Fault) -> Fault
+    ensures { λ r. ⌜ r ≡ typeFault (now (rows .entry)) 32 0 next ⌝ }
 {
     let mut i = 0;
     while i < 32 {
         if !is_type(i, get8(rows, i)) {
-            return i;
+            return Fault::At(i as u16);
         }
         i += 1;
     }
     next
 }
 
-fn plain(slot: usize, head: usize, bad: usize) -> Facts
-    ensures { λ r. ⌜ r ≡ factsOf slot head (record { start = 0; end = 0 }) 0 0 false bad ⌝ }
+// A kind with fields of numbers alone.
+fn plain(slot: usize, fault: Fault) -> Findings
+    ensures { λ r. ⌜ r ≡ findings slot false true fault false ⌝ }
 {
-    Facts {
+    Findings {
         slot,
-        head,
-        rest: Part { start: 0, end: 0 },
-        table: 0,
-        payload: 0,
         surplus: false,
-        bad,
+        sized: true,
+        fault,
+        alone: false,
     }
 }
 
-fn carrying(slot: usize, head: usize, rest: Part, payload: u32, bad: usize) -> Facts
-    ensures { λ r. ⌜ r ≡ factsOf slot head rest 0 payload false bad ⌝ }
+// A kind whose size is judged.
+fn judged(slot: usize, sized: bool, fault: Fault) -> Findings
+    ensures { λ r. ⌜ r ≡ findings slot false sized fault false ⌝ }
 {
-    Facts {
+    Findings {
         slot,
-        head,
-        rest,
-        table: 0,
-        payload,
         surplus: false,
-        bad,
+        sized,
+        fault,
+        alone: false,
     }
 }
 
-fn hello(id: u64, rest: Part, body: &[u8]) -> Facts
-    ensures { λ r. ⌜ r ≡ helloFacts id rest (now (body .entry)) ⌝ }
+// 13: a hello's first word has bit 0 without bit 4.
+fn offers_streams_alone(words: &[u8]) -> bool
+    ensures { λ r. ⌜ r ≡ (hasBit (le 4 (now (words .entry)) 0) 0 && not (hasBit (le 4 (now (words .entry)) 0) 4)) ⌝ }
 {
-    let rows = part_of(body, rest);
-    Facts {
+    let word = get32(words, 0);
+    has_bit(word, 0) & !has_bit(word, 4)
+}
+
+fn hello(id: u64, h: Hello, body: &[u8]) -> Findings
+    ensures { λ r. ⌜ ((from : Side) (caps : ℕ) → Finds from caps id (packets.Hello h) (now (body .entry)) r) ⌝ }
+{
+    let first = h.version;
+    let second = h.words;
+    let version = part_of(body, first);
+    let words = part_of(body, second);
+    let n = words.len();
+    Findings {
         slot: 0,
-        head: 0,
-        rest,
-        table: 64,
-        payload: 0,
         surplus: false,
-        bad: checked(zero_at(rows) < 64, 0, zero_id(id)),
+        sized: (version.len() == 64) & ((n <= 32) & (n % 4 == 0)),
+        fault: checked(zero_at(version) < 64, 0, zero_id(id)),
+        alone: offers_streams_alone(words),
     }
 }
 
-fn is_given(version: Optional16) -> bool
-    ensures { λ r. ⌜ r ≡ isGiven version ⌝ }
+fn connect(caps: u32, id: u64, c: Connect) -> Findings
+    ensures { λ r. ⌜ ((from : Side) (body : List ℕ) → Finds from caps id (packets.Connect c) body r) ⌝ }
 {
-    match version {
-        Optional16::Absent => false,
-        Optional16::Present(_) => true,
-    }
-}
-
-fn connect(id: u64, caps: u32, speed: u8, version: Optional16) -> Facts
-    ensures { λ r. ⌜ r ≡ connectFacts id caps speed version ⌝ }
-{
+    let version = c.version;
+    let speed = c.speed;
     let given = is_given(version);
     let shared = has_bit(caps, 1);
     let last = checked(given | !shared, 8, zero_id(id));
-    Facts {
+    Findings {
         slot: 1,
-        head: choose(given, 10, 8),
-        rest: Part { start: 0, end: 0 },
-        table: 0,
-        payload: 0,
         surplus: given & !shared,
-        bad: checked((speed <= 3) | (speed == 255), 0, last),
+        sized: true,
+        fault: checked((speed <= 3) | (speed == 255), 0, last),
+        alone: false,
     }
 }
 
-fn interfaces(id: u64, count: u32, rest: Part) -> Facts
-    ensures { λ r. ⌜ r ≡ factsOf 4 4 rest 128 0 false (cond (leb count 32) (noId id) 0) ⌝ }
+fn interfaces(id: u64, t: InterfaceTable, body: &[u8]) -> Findings
+    ensures { λ r. ⌜ ((from : Side) (caps : ℕ) → Finds from caps id (packets.InterfaceTable t) (now (body .entry)) r) ⌝ }
 {
-    Facts {
-        slot: 4,
-        head: 4,
-        rest,
-        table: 128,
-        payload: 0,
-        surplus: false,
-        bad: checked(count <= 32, 0, zero_id(id)),
-    }
+    let part = t.rows;
+    judged(
+        4,
+        part_of(body, part).len() == 128,
+        checked(t.count <= 32, 0, zero_id(id)),
+    )
 }
 
-fn endpoints(id: u64, caps: u32, rest: Part, packets: bool, streams: bool, body: &[u8]) -> Facts
-    ensures { λ r. ⌜ r ≡ endpointFacts id caps rest packets streams (now (body .entry)) ⌝ }
+fn endpoints(caps: u32, id: u64, t: EndpointTable, body: &[u8]) -> Findings
+    ensures { λ r. ⌜ ((from : Side) → Finds from caps id (packets.EndpointTable t) (now (body .entry)) r) ⌝ }
 {
-    let rows = part_of(body, rest);
+    let part = t.rows;
+    let packets = t.maxpacket;
+    let streams = t.maxstreams;
+    let rows = part_of(body, part);
     let four = has_bit(caps, 4);
     let both = four & has_bit(caps, 0);
     let last = checked(
@@ -235,267 +255,172 @@ fn endpoints(id: u64, caps: u32, rest: Part, packets: bool, streams: bool, body:
         96,
         checked(streams | !both, 160, zero_id(id)),
     );
-    Facts {
+    Findings {
         slot: 5,
-        head: 0,
-        rest,
-        table: 96 + choose(packets, 64, 0) + choose(streams, 128, 0),
-        payload: 0,
         surplus: (packets & !four) | (streams & !both),
-        bad: type_at(rows, last),
+        sized: rows.len() == table_size(packets, streams),
+        fault: type_at(rows, last),
+        alone: false,
     }
 }
 
-fn filter(id: u64, rest: Part, body: &[u8]) -> Facts
-    ensures { λ r. ⌜ r ≡ filterFacts id rest (now (body .entry)) ⌝ }
+fn filter(id: u64, f: Filter, body: &[u8]) -> Findings
+    ensures { λ r. ⌜ ((from : Side) (caps : ℕ) → Finds from caps id (packets.Filter f) (now (body .entry)) r) ⌝ }
 {
-    let text = part_of(body, rest);
-    carrying(
-        23,
-        0,
-        rest,
-        0,
-        checked(zero_at(text) + 1 == text.len(), 0, zero_id(id)),
-    )
+    let part = f.string;
+    let text = part_of(body, part);
+    let n = text.len();
+    judged(23, 1 <= n, checked(zero_at(text) + 1 == n, 0, zero_id(id)))
 }
 
-fn control(
-    from: Side,
-    endpoint: Endpoint,
-    requesttype: u8,
-    status: u8,
-    length: u16,
-    rest: Part,
-) -> Facts
-    ensures { λ r. ⌜ r ≡ controlFacts from endpoint requesttype status length rest ⌝ }
+fn control(from: Side, id: u64, c: Control, body: &[u8]) -> Findings
+    ensures { λ r. ⌜ ((caps : ℕ) → Finds from caps id (packets.Control c) (now (body .entry)) r) ⌝ }
 {
+    let endpoint = c.endpoint;
+    let part = c.payload;
     let last = checked(
-        requesttype >> 7 == endpoint.0 >> 7,
+        c.requesttype >> 7 == endpoint.0 >> 7,
         2,
-        status_at(from, status, 3, 65536),
+        status_at(from, c.status, 3, Fault::None),
     );
-    carrying(
+    judged(
         28,
-        10,
-        rest,
-        onward_data(from, endpoint, length as u32),
+        part_of(body, part).len() == onward_data(from, endpoint, c.length as u32) as usize,
         endpoint_at(endpoint, 0, last),
     )
 }
 
-fn bulk(
-    from: Side,
-    caps: u32,
-    endpoint: Endpoint,
-    status: u8,
-    length: u32,
-    stream: u32,
-    rest: Part,
-) -> Facts
-    ensures { λ r. ⌜ r ≡ bulkFacts from caps endpoint status length stream rest ⌝ }
+fn bulk(from: Side, caps: u32, id: u64, b: Bulk, body: &[u8]) -> Findings
+    ensures { λ r. ⌜ Finds from caps id (packets.Bulk b) (now (body .entry)) r ⌝ }
 {
-    let wide = has_bit(caps, 6);
-    let over = 65535 < length;
-    let last = checked(has_bit(caps, 0) | (stream == 0), 4, 65536);
-    Facts {
+    let endpoint = b.endpoint;
+    let part = b.payload;
+    let length = b.length;
+    let last = checked(has_bit(caps, 0) | (b.stream == 0), 4, Fault::None);
+    Findings {
         slot: 29,
-        head: choose(wide | over, 10, 8),
-        rest,
-        table: 0,
-        payload: onward_data(from, endpoint, length),
-        surplus: !wide & over,
-        bad: endpoint_at(endpoint, 0, status_at(from, status, 1, last)),
+        surplus: !has_bit(caps, 6) & (65535 < length),
+        sized: part_of(body, part).len() == onward_data(from, endpoint, length) as usize,
+        fault: endpoint_at(endpoint, 0, status_at(from, b.status, 1, last)),
+        alone: false,
     }
 }
 
-fn iso(from: Side, endpoint: Endpoint, status: u8, length: u16, rest: Part) -> Facts
-    ensures { λ r. ⌜ r ≡ isoFacts from endpoint status length rest ⌝ }
+fn iso(from: Side, id: u64, p: Iso, body: &[u8]) -> Findings
+    ensures { λ r. ⌜ ((caps : ℕ) → Finds from caps id (packets.Iso p) (now (body .entry)) r) ⌝ }
 {
+    let endpoint = p.endpoint;
+    let part = p.payload;
     let ok = is_address(endpoint) & is_onward(from, endpoint);
-    carrying(
+    judged(
         30,
-        4,
-        rest,
-        length as u32,
-        checked(ok, 0, status_at(from, status, 1, 65536)),
+        part_of(body, part).len() == p.length as usize,
+        checked(ok, 0, status_at(from, p.status, 1, Fault::None)),
     )
 }
 
-fn interrupt(from: Side, endpoint: Endpoint, status: u8, length: u16, rest: Part) -> Facts
-    ensures { λ r. ⌜ r ≡ interruptFacts from endpoint status length rest ⌝ }
+fn interrupt(from: Side, id: u64, p: Interrupt, body: &[u8]) -> Findings
+    ensures { λ r. ⌜ ((caps : ℕ) → Finds from caps id (packets.Interrupt p) (now (body .entry)) r) ⌝ }
 {
+    let endpoint = p.endpoint;
+    let part = p.payload;
     let ok = is_address(endpoint) & (!is_guest(from) | is_onward(from, endpoint));
-    carrying(
+    judged(
         31,
-        4,
-        rest,
-        onward_data(from, endpoint, length as u32),
-        checked(ok, 0, status_at(from, status, 1, 65536)),
+        part_of(body, part).len() == onward_data(from, endpoint, p.length as u32) as usize,
+        checked(ok, 0, status_at(from, p.status, 1, Fault::None)),
     )
 }
 
-fn buffered_bulk(from: Side, length: u32, endpoint: Endpoint, status: u8, rest: Part) -> Facts
-    ensures { λ r. ⌜ r ≡ bufferedFacts from length endpoint status rest ⌝ }
+fn buffered_bulk(from: Side, id: u64, p: BufferedBulk, body: &[u8]) -> Findings
+    ensures { λ r. ⌜ ((caps : ℕ) → Finds from caps id (packets.BufferedBulk p) (now (body .entry)) r) ⌝ }
 {
-    carrying(
+    let endpoint = p.endpoint;
+    let part = p.payload;
+    judged(
         32,
-        10,
-        rest,
-        length,
-        in_at(endpoint, 8, status_at(from, status, 9, 65536)),
+        part_of(body, part).len() == p.length as usize,
+        in_at(endpoint, 8, status_at(from, p.status, 9, Fault::None)),
     )
 }
 
-// The rules of each kind, as document 01 has them.
-pub fn facts_of(from: Side, caps: u32, id: u64, p: Packet, body: &[u8]) -> Facts
-    ensures { λ r. ⌜ Shows from caps id p (now (body .entry)) r ⌝ }
+// What the rules of each kind find, as document 01 has them.
+fn findings_of(from: Side, caps: u32, id: u64, p: Packet, body: &[u8]) -> Findings
+    ensures { λ r. ⌜ Finds from caps id p (now (body .entry)) r ⌝ }
 {
     match p {
-        Packet::Hello { rest } => hello(id, rest, body),
-        Packet::Connect {
-            speed,
-            class: _,
-            subclass: _,
-            protocol: _,
-            vendor: _,
-            product: _,
-            version,
-        } => connect(id, caps, speed, version),
-        Packet::Disconnect => plain(2, 0, zero_id(id)),
-        Packet::Reset => plain(3, 0, 65536),
-        Packet::InterfaceTable { count, rows } => interfaces(id, count, rows),
-        Packet::EndpointTable {
-            rows,
-            max_packet,
-            max_streams,
-        } => endpoints(id, caps, rows, max_packet, max_streams, body),
-        Packet::SetConfiguration { configuration: _ } => plain(6, 1, 65536),
-        Packet::GetConfiguration => plain(7, 0, 65536),
-        Packet::ConfigurationStatus {
-            status,
-            configuration: _,
-        } => plain(8, 2, status_at(from, status, 0, 65536)),
-        Packet::SetAlt {
-            interface: _,
-            alt: _,
-        } => plain(9, 2, 65536),
-        Packet::GetAlt { interface: _ } => plain(10, 1, 65536),
-        Packet::AltStatus {
-            status,
-            interface: _,
-            alt: _,
-        } => plain(11, 3, status_at(from, status, 0, 65536)),
-        Packet::StartIso {
-            endpoint,
-            packets: _,
-            urbs: _,
-        } => plain(12, 3, endpoint_at(endpoint, 0, 65536)),
-        Packet::StopIso { endpoint } => plain(13, 1, endpoint_at(endpoint, 0, 65536)),
-        Packet::IsoStatus { status, endpoint } => plain(
+        Packet::Hello(x) => hello(id, x, body),
+        Packet::Connect(x) => connect(caps, id, x),
+        Packet::Disconnect => plain(2, zero_id(id)),
+        Packet::Reset => plain(3, Fault::None),
+        Packet::InterfaceTable(x) => interfaces(id, x, body),
+        Packet::EndpointTable(x) => endpoints(caps, id, x, body),
+        Packet::SetConfiguration(_) => plain(6, Fault::None),
+        Packet::GetConfiguration => plain(7, Fault::None),
+        Packet::ConfigurationStatus(x) => plain(8, status_at(from, x.status, 0, Fault::None)),
+        Packet::SetAlt(_) => plain(9, Fault::None),
+        Packet::GetAlt(_) => plain(10, Fault::None),
+        Packet::AltStatus(x) => plain(11, status_at(from, x.status, 0, Fault::None)),
+        Packet::StartIso(x) => {
+            let endpoint = x.endpoint;
+            plain(12, endpoint_at(endpoint, 0, Fault::None))
+        }
+        Packet::StopIso(x) => {
+            let endpoint = x.endpoint;
+            plain(13, endpoint_at(endpoint, 0, Fault::None))
+        }
+        Packet::IsoStatus(x) => plain(
             14,
-            2,
-            status_at(from, status, 0, endpoint_at(endpoint, 1, 65536)),
+            status_at(from, x.status, 0, endpoint_at(x.endpoint, 1, Fault::None)),
         ),
-        Packet::StartInterrupt { endpoint } => plain(15, 1, in_at(endpoint, 0, 65536)),
-        Packet::StopInterrupt { endpoint } => plain(16, 1, in_at(endpoint, 0, 65536)),
-        Packet::InterruptStatus { status, endpoint } => plain(
+        Packet::StartInterrupt(x) => {
+            let endpoint = x.endpoint;
+            plain(15, in_at(endpoint, 0, Fault::None))
+        }
+        Packet::StopInterrupt(x) => {
+            let endpoint = x.endpoint;
+            plain(16, in_at(endpoint, 0, Fault::None))
+        }
+        Packet::InterruptStatus(x) => plain(
             17,
-            2,
-            status_at(from, status, 0, endpoint_at(endpoint, 1, 65536)),
+            status_at(from, x.status, 0, endpoint_at(x.endpoint, 1, Fault::None)),
         ),
-        Packet::AllocStreams { mask, count: _ } => plain(18, 8, checked(mask != 0, 0, 65536)),
-        Packet::FreeStreams { mask } => plain(19, 4, checked(mask != 0, 0, 65536)),
-        Packet::StreamsStatus {
-            mask: _,
-            count: _,
-            status,
-        } => plain(20, 9, status_at(from, status, 8, 65536)),
-        Packet::Cancel => plain(21, 0, 65536),
-        Packet::FilterReject => plain(22, 0, zero_id(id)),
-        Packet::Filter { string } => filter(id, string, body),
-        Packet::DisconnectAck => plain(24, 0, zero_id(id)),
-        Packet::StartBulkReceiving {
-            stream: _,
-            bytes: _,
-            endpoint,
-            transfers: _,
-        } => plain(25, 10, in_at(endpoint, 8, 65536)),
-        Packet::StopBulkReceiving {
-            stream: _,
-            endpoint,
-        } => plain(26, 5, in_at(endpoint, 4, 65536)),
-        Packet::BulkReceivingStatus {
-            stream: _,
-            endpoint,
-            status,
-        } => plain(27, 6, in_at(endpoint, 4, status_at(from, status, 5, 65536))),
-        Packet::Control {
-            endpoint,
-            request: _,
-            requesttype,
-            status,
-            value: _,
-            index: _,
-            length,
-            data,
-        } => control(from, endpoint, requesttype, status, length, data),
-        Packet::Bulk {
-            endpoint,
-            status,
-            length,
-            stream,
-            data,
-        } => bulk(from, caps, endpoint, status, length, stream, data),
-        Packet::Iso {
-            endpoint,
-            status,
-            length,
-            data,
-        } => iso(from, endpoint, status, length, data),
-        Packet::Interrupt {
-            endpoint,
-            status,
-            length,
-            data,
-        } => interrupt(from, endpoint, status, length, data),
-        Packet::BufferedBulk {
-            stream: _,
-            length,
-            endpoint,
-            status,
-            data,
-        } => buffered_bulk(from, length, endpoint, status, data),
-    }
-}
-
-// n bytes may follow the fields.
-fn may_follow(slot: usize, payload: u32, n: usize) -> bool
-    ensures { λ r. ⌜ r ≡ mayFollow slot payload n ⌝ }
-{
-    match slot {
-        0 => (n <= 32) & (n % 4 == 0),
-        23 => 1 <= n,
-        _ => n == payload as usize,
+        Packet::AllocStreams(x) => plain(18, checked(x.mask != 0, 0, Fault::None)),
+        Packet::FreeStreams(x) => plain(19, checked(x.mask != 0, 0, Fault::None)),
+        Packet::StreamsStatus(x) => plain(20, status_at(from, x.status, 8, Fault::None)),
+        Packet::Cancel => plain(21, Fault::None),
+        Packet::FilterReject => plain(22, zero_id(id)),
+        Packet::Filter(x) => filter(id, x, body),
+        Packet::DisconnectAck => plain(24, zero_id(id)),
+        Packet::StartBulkReceiving(x) => {
+            let endpoint = x.endpoint;
+            plain(25, in_at(endpoint, 8, Fault::None))
+        }
+        Packet::StopBulkReceiving(x) => {
+            let endpoint = x.endpoint;
+            plain(26, in_at(endpoint, 4, Fault::None))
+        }
+        Packet::BulkReceivingStatus(x) => plain(
+            27,
+            in_at(x.endpoint, 4, status_at(from, x.status, 5, Fault::None)),
+        ),
+        Packet::Control(x) => control(from, id, x, body),
+        Packet::Bulk(x) => bulk(from, caps, id, x, body),
+        Packet::Iso(x) => iso(from, id, x, body),
+        Packet::Interrupt(x) => interrupt(from, id, x, body),
+        Packet::BufferedBulk(x) => buffered_bulk(from, id, x, body),
     }
 }
 
 // 22 for an id: "a non-hello's id over 32 bits without bit 5".
-pub fn is_wide(slot: usize, caps: u32, id: u64) -> bool
+fn is_wide(slot: usize, caps: u32, id: u64) -> bool
     ensures { λ r. ⌜ r ≡ (not (eqb slot 0) && not (hasBit caps 5) && leb 4294967296 id) ⌝ }
 {
     (slot != 0) & !has_bit(caps, 5) & (4294967296 <= id)
 }
 
-// 13: a hello's first word, behind its version, has bit 0 without bit 4.
-fn offers_streams_alone(slot: usize, rows: &[u8], at: usize) -> bool
-    ensures { λ r. ⌜ r ≡ (eqb slot 0 && (hasBit (le 4 (now (rows .entry)) at) 0 && not (hasBit (le 4 (now (rows .entry)) at) 4))) ⌝ }
-{
-    let word = get32(rows, at);
-    (slot == 0) & (has_bit(word, 0) & !has_bit(word, 4))
-}
-
 // The first of 21 to 24 that holds, then 13.
-pub fn in_order(missent: bool, unshared: bool, missized: bool, broken: bool, alone: bool) -> u8
+fn in_order(missent: bool, unshared: bool, missized: bool, broken: bool, alone: bool) -> u8
     ensures { λ r. ⌜ r ≡ inOrder missent unshared missized broken alone ⌝ }
 {
     if missent {
@@ -513,151 +438,80 @@ pub fn in_order(missent: bool, unshared: bool, missized: bool, broken: bool, alo
     if alone { 13 } else { 0 }
 }
 
-// The number of any packet that has these facts, where data alone follows the fields: it is no hello and has no table.
-fn data_number(l: Link, slot: usize, id: u64, f: Facts, body: &[u8]) -> u8
-    requires { ⌜ (f .slot ≡ slot) × (28 ≤ slot) × (f .table ≡ 0) ⌝ }
-    ensures { λ r. ⌜ ((p : Packet) → Shows (l .sender) (sharedSet l) id p (now (body .entry)) f → r ≡ wireNumber l (contentOf (sharedSet l) id p (now (body .entry)))) ⌝ }
+// The number of a body that does not have its kind's size: 23, or one of 21 and 22, which the kind and the id decide. It also says that the id
+// is below 2 to the 64th.
+pub fn size_number(l: Link, slot: usize, id: u64) -> u8
+    ensures { λ r. ⌜ (r ≡ missized l slot id) × (id < 256 ^ 8) ⌝ }
 {
-    let from = l.sender;
     let caps = shared_set(l);
-    let rest = f.rest;
+    let from = l.sender;
     in_order(
         !may_send(slot, from),
-        !is_shared(slot, caps) | f.surplus | is_wide(slot, caps, id),
-        part_of(body, rest).len() != f.payload as usize,
-        f.bad != 65536,
+        !is_shared(slot, caps) | is_wide(slot, caps, id),
+        true,
+        false,
         false,
     )
 }
 
-// What `wire_number` says of each kind with data, by the fields that its rules look at.
-pub fn control_number(
-    l: Link,
-    id: u64,
-    endpoint: Endpoint,
-    requesttype: u8,
-    status: u8,
-    length: u16,
-    rest: Part,
-    body: &[u8],
-) -> u8
-    ensures { λ r. ⌜ ((request value index : ℕ) → r ≡ wireNumber l (contentOf (sharedSet l) id (Control endpoint request requesttype status value index length rest) (now (body .entry)))) ⌝ }
-{
-    let from = l.sender;
-    data_number(
-        l,
-        28,
-        id,
-        control(from, endpoint, requesttype, status, length, rest),
-        body,
-    )
-}
-
-pub fn bulk_number(
-    l: Link,
-    id: u64,
-    endpoint: Endpoint,
-    status: u8,
-    length: u32,
-    stream: u32,
-    rest: Part,
-    body: &[u8],
-) -> u8
-    ensures { λ r. ⌜ r ≡ wireNumber l (contentOf (sharedSet l) id (Bulk endpoint status length stream rest) (now (body .entry))) ⌝ }
-{
-    let from = l.sender;
-    data_number(
-        l,
-        29,
-        id,
-        bulk(from, shared_set(l), endpoint, status, length, stream, rest),
-        body,
-    )
-}
-
-pub fn iso_number(
-    l: Link,
-    id: u64,
-    endpoint: Endpoint,
-    status: u8,
-    length: u16,
-    rest: Part,
-    body: &[u8],
-) -> u8
-    ensures { λ r. ⌜ r ≡ wireNumber l (contentOf (sharedSet l) id (Iso endpoint status length rest) (now (body .entry))) ⌝ }
-{
-    let from = l.sender;
-    data_number(l, 30, id, iso(from, endpoint, status, length, rest), body)
-}
-
-pub fn interrupt_number(
-    l: Link,
-    id: u64,
-    endpoint: Endpoint,
-    status: u8,
-    length: u16,
-    rest: Part,
-    body: &[u8],
-) -> u8
-    ensures { λ r. ⌜ r ≡ wireNumber l (contentOf (sharedSet l) id (Interrupt endpoint status length rest) (now (body .entry))) ⌝ }
-{
-    let from = l.sender;
-    data_number(
-        l,
-        31,
-        id,
-        interrupt(from, endpoint, status, length, rest),
-        body,
-    )
-}
-
-pub fn buffered_number(
-    l: Link,
-    id: u64,
-    length: u32,
-    endpoint: Endpoint,
-    status: u8,
-    rest: Part,
-    body: &[u8],
-) -> u8
-    ensures { λ r. ⌜ ((stream : ℕ) → r ≡ wireNumber l (contentOf (sharedSet l) id (BufferedBulk stream length endpoint status rest) (now (body .entry)))) ⌝ }
-{
-    let from = l.sender;
-    data_number(
-        l,
-        32,
-        id,
-        buffered_bulk(from, length, endpoint, status, rest),
-        body,
-    )
-}
-
-// The wire checks 21 to 24 and 13 by the facts of a packet, as `facts_of` finds them in it with its body.
-pub fn number_by(l: Link, id: u64, f: Facts, body: &[u8]) -> u8
-    ensures { λ r. ⌜ (r ≡ numberBy l id f (inPart (f .rest) (now (body .entry)))) × ((p : Packet) → Shows (l .sender) (sharedSet l) id p (now (body .entry)) f → r ≡ wireNumber l (contentOf (sharedSet l) id p (now (body .entry)))) ⌝ }
+// The number of a packet of which that was found.
+fn number_by(l: Link, id: u64, f: Findings) -> u8
+    ensures { λ r. ⌜ ((p : Packet) (body : List ℕ) → Finds (l .sender) (sharedSet l) id p body f → r ≡ wireNumber l (contentOf (sharedSet l) id p body)) ⌝ }
 {
     let from = l.sender;
     let caps = shared_set(l);
     let slot = f.slot;
-    let table = f.table;
-    let rest = f.rest;
-    let rows = part_of(body, rest);
-    let n = rows.len();
-    let sized = (table <= n) & may_follow(slot, f.payload, saturating_sub(n, table));
+    let fault = f.fault;
     in_order(
         !may_send(slot, from),
         !is_shared(slot, caps) | f.surplus | is_wide(slot, caps, id),
-        !sized,
-        f.bad != 65536,
-        offers_streams_alone(slot, rows, table),
+        !f.sized,
+        is_fault(fault),
+        f.alone,
     )
 }
 
-// The same of a packet with its body, for reader and writer alike; a `Packet` is of a known kind, so 20 is not among them.
+// What `wire_number` says of each kind with data, whose packet is known to be of that kind.
+pub fn control_number(l: Link, id: u64, c: Control, body: &[u8]) -> u8
+    ensures { λ r. ⌜ r ≡ wireNumber l (contentOf (sharedSet l) id (packets.Control c) (now (body .entry))) ⌝ }
+{
+    let from = l.sender;
+    number_by(l, id, control(from, id, c, body))
+}
+
+pub fn bulk_number(l: Link, id: u64, b: Bulk, body: &[u8]) -> u8
+    ensures { λ r. ⌜ r ≡ wireNumber l (contentOf (sharedSet l) id (packets.Bulk b) (now (body .entry))) ⌝ }
+{
+    let from = l.sender;
+    number_by(l, id, bulk(from, shared_set(l), id, b, body))
+}
+
+pub fn iso_number(l: Link, id: u64, p: Iso, body: &[u8]) -> u8
+    ensures { λ r. ⌜ r ≡ wireNumber l (contentOf (sharedSet l) id (packets.Iso p) (now (body .entry))) ⌝ }
+{
+    let from = l.sender;
+    number_by(l, id, iso(from, id, p, body))
+}
+
+pub fn interrupt_number(l: Link, id: u64, p: Interrupt, body: &[u8]) -> u8
+    ensures { λ r. ⌜ r ≡ wireNumber l (contentOf (sharedSet l) id (packets.Interrupt p) (now (body .entry))) ⌝ }
+{
+    let from = l.sender;
+    number_by(l, id, interrupt(from, id, p, body))
+}
+
+pub fn buffered_number(l: Link, id: u64, p: BufferedBulk, body: &[u8]) -> u8
+    ensures { λ r. ⌜ r ≡ wireNumber l (contentOf (sharedSet l) id (packets.BufferedBulk p) (now (body .entry))) ⌝ }
+{
+    let from = l.sender;
+    number_by(l, id, buffered_bulk(from, id, p, body))
+}
+
+// The wire checks of a packet with its body, for reader and writer alike; a `Packet` is of a known kind, so 20 is not among them.
 pub fn wire_number(l: Link, id: u64, p: Packet, body: &[u8]) -> u8
     ensures { λ r. ⌜ r ≡ wireNumber l (contentOf (sharedSet l) id p (now (body .entry))) ⌝ }
 {
     let from = l.sender;
     let caps = shared_set(l);
-    number_by(l, id, facts_of(from, caps, id, p, body), body)
+    number_by(l, id, findings_of(from, caps, id, p, body))
 }

@@ -11,15 +11,15 @@ use Rattle.header.specs.declared.Side.{Side}
 use Rattle.device.specs.declared.Head.{Head}
 use Rattle.device.specs.declared.Rows.{Rows}
 use Rattle.device.specs.declared.Scope.{Scope}
-use Rattle.device.specs.declared.Scope.the-variants.{Nowhere, Everywhere, OfInterface}
+use Rattle.device.specs.declared.Scope.the-variants.{NoRow, EveryRow, OfInterface}
 use Rattle.device.specs.Device.{withStreams}
 use Rattle.device.specs.Columns.{streamRow}
 use Rattle.requests.specs.declared.Requests.{Requests}
-use Rattle.requests.specs.Requests.{noRequest, withRequest, trimmed, freed}
+use Rattle.requests.specs.Requests.{places, noRequest, withRequest, trimmed, freed}
 use Rattle.events.specs.declared.Typed.{Typed}
 use Rattle.events.specs.declared.Typed.the-variants.{Untyped, OfEndpoint, OfMask}
 use Rattle.checks.specs.declared.Change.{Change}
-use Rattle.checks.specs.declared.Change.the-variants.{Nothing, Hello, Connect, Interfaces, Endpoints, Disconnect, Reset, Acknowledge, Take, Start, Answer}
+use Rattle.checks.specs.declared.Change.the-variants.{NoChange, Hello, Connect, Interfaces, Endpoints, Disconnect, Reset, Acknowledge, Take, TakeAndOpen, Release}
 use Rattle.session.specs.declared.Edit.{Edit}
 use Rattle.session.specs.Step.{streamBy, headAfter, rowsAfter, requestsAfter}
 
@@ -40,15 +40,15 @@ pub record Moves (d : Rows) (typed : Typed) (row : ℕ) : Type 0 where
 
 -- no row, no place: what is left to `applied`
 abbrev pub wideEdit : Edit
-wideEdit = record { row = 32; opens = false; place = 96; live = false; request = noRequest; wide = true }
+wideEdit = record { row = 32; opens = false; place = places; live = false; request = noRequest; wide = true }
 
 abbrev pub replyEdit : Rows → ℕ → Typed → Bool → Scope → Edit
-replyEdit d i typed opens Nowhere = record { row = rowMoved d typed; opens = opens; place = i; live = false; request = noRequest; wide = false }
-replyEdit d i typed opens Everywhere = wideEdit
+replyEdit d i typed opens NoRow = record { row = rowMoved d typed; opens = opens; place = i; live = false; request = noRequest; wide = false }
+replyEdit d i typed opens EveryRow = wideEdit
 replyEdit d i typed opens (OfInterface n) = wideEdit
 
 abbrev pub editOf : Rows → Change → Edit
-editOf d Nothing = record { row = 32; opens = false; place = 96; live = false; request = noRequest; wide = false }
+editOf d NoChange = record { row = 32; opens = false; place = places; live = false; request = noRequest; wide = false }
 editOf d (Hello word) = wideEdit
 editOf d Connect = wideEdit
 editOf d Interfaces = wideEdit
@@ -57,15 +57,15 @@ editOf d Disconnect = wideEdit
 editOf d Reset = wideEdit
 editOf d Acknowledge = wideEdit
 editOf d (Take i q) = record { row = 32; opens = false; place = i; live = true; request = q; wide = false }
-editOf d (Start i q typed) = record { row = rowMoved d typed; opens = true; place = i; live = true; request = q; wide = false }
-editOf d (Answer i typed opens scope) = replyEdit d i typed opens scope
+editOf d (TakeAndOpen i q typed) = record { row = rowMoved d typed; opens = true; place = i; live = true; request = q; wide = false }
+editOf d (Release i typed opens scope) = replyEdit d i typed opens scope
 
 -- the rows and the requests with the edit stored
 abbrev pub rowsEdited : Rows → Edit → Rows
 rowsEdited d e = streamAt d (e .row) (e .opens)
 
 abbrev pub requestsEdited : Requests → Edit → Requests
-requestsEdited t e = cond (ltb (e .place) 96) (cond (e .live) (withRequest t (e .place) (e .request)) (freed t (e .place))) t
+requestsEdited t e = cond (e .live) (withRequest t (e .place) (e .request)) (cond (ltb (e .place) places) (freed t (e .place)) t)
 
 -- an edit that is not wide is the whole change
 pub record Edits (d : Rows) (c : Change) (e : Edit) : Type 0 where
@@ -78,15 +78,15 @@ pub record Edits (d : Rows) (c : Change) (e : Edit) : Type 0 where
 
 -- a column of 96 with the element of the edit's place set
 abbrev pub placedIn : {A : Type 0} → List A → Edit → A → List A
-placedIn l e x = cond (ltb (e .place) 96) (set l (e .place) x) l
+placedIn l e x = cond (ltb (e .place) places) (set l (e .place) x) l
 
 -- what the live places lie below once this place is taken, or is free and these are the live ones
 abbrev pub usedBy : ℕ → ℕ → Bool → List Bool → ℕ
-usedBy used i live lives = cond live (cond (ltb i used || leb 96 i) used (suc i)) (trimmed lives (cond (leb used 96) used 96))
+usedBy used i live lives = cond live (cond (ltb i used || leb places i) used (suc i)) (trimmed lives (cond (leb used places) used places))
 
 -- what each column is then, and the number that the live places lie below
 pub record Stores (e : Edit) (used : ℕ) (streams live : List Bool) (kinds ids : List ℕ) (used′ : ℕ) (streams′ live′ : List Bool) (kinds′ ids′ : List ℕ) : Type 0 where
-  pub used-is : used′ ≡ cond (ltb (e .place) 96) (usedBy used (e .place) (e .live) (set live (e .place) (e .live))) used
+  pub used-is : used′ ≡ cond (ltb (e .place) places) (usedBy used (e .place) (e .live) (set live (e .place) (e .live))) used
   pub streams-are : streams′ ≡ cond (ltb (e .row) 32) (set streams (e .row) (e .opens)) streams
   pub live-are : live′ ≡ placedIn live e (e .live)
   pub kinds-are : kinds′ ≡ placedIn kinds e (e .request .kind)

@@ -1,4 +1,3 @@
 pub mod Session
 pub mod Step
 pub mod Edit
-pub mod Stored

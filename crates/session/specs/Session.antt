@@ -1,14 +1,15 @@
 -- A session: its head, the rows of the device, and the requests that wait.
 -- Assumes nothing: these are definitions.
-use Prim.Native.Nat.{ℕ}
+use Prim.Native.Nat.{ℕ, _-_}
 use mathlib.Core.Bool.{Bool, not, _&&_, _||_}
 use lib.Dec.{ltb}
-use Rattle.number.specs.Bits.{hasBit}
+use Rattle.octets.specs.Bits.{hasBit}
 use Rattle.header.specs.declared.Side.{Side}
 use Rattle.header.specs.declared.Side.the-variants.{Guest, Host}
-use Rattle.header.specs.declared.Hello.{Hello}
+use Rattle.header.specs.declared.HelloState.{HelloState}
 use Rattle.header.specs.declared.Link.{Link}
 use Rattle.header.specs.Link.{passed, sharedSet}
+use Rattle.header.specs.Header.{holdSize}
 use Rattle.device.specs.declared.Head.{Head}
 use Rattle.device.specs.declared.Held.{Held}
 use Rattle.device.specs.Device.{startHead, startRows, controlRows}
@@ -47,9 +48,13 @@ heldTo from n stopped h =
 
 -- ---- 43, what it tests of a session
 
+-- "a held count over 32,783": the longest packet but for its last byte
+abbrev pub maxHeld : ℕ
+maxHeld = holdSize - 1
+
 -- "a held count over 32,783 or, own hello passed and other's not, over 0"
-abbrev pub heldBad : Hello → Hello → ℕ → Bool
-heldBad own other n = ltb 32783 n || (passed own && not (passed other) && ltb 0 n)
+abbrev pub heldBad : HelloState → HelloState → ℕ → Bool
+heldBad own other n = ltb maxHeld n || (passed own && not (passed other) && ltb 0 n)
 
 -- of either direction; "two live requests with one id; row 0 or 16 not control"
 unfoldable pub unfit : Session → Bool

@@ -3,23 +3,23 @@
 use Prim.Native.Nat.{ℕ}
 use mathlib.Core.Bool.{Bool, true, false, cond}
 use lib.Dec.{eqb, ltb}
-use Rattle.kinds.specs.Number.{isGuest}
+use Rattle.header.specs.Link.{isGuest}
 use Rattle.header.specs.declared.Side.{Side}
-use Rattle.header.specs.declared.Hello.{Hello}
-use Rattle.header.specs.declared.Hello.the-variants.{Awaited, Passed}
+use Rattle.header.specs.declared.HelloState.{HelloState}
+use Rattle.header.specs.declared.HelloState.the-variants.{Awaited, Passed}
 use Rattle.device.specs.declared.Introduction.{Introduction}
-use Rattle.device.specs.declared.Introduction.the-variants.{Nothing as Unintroduced, One, Two}
+use Rattle.device.specs.declared.Introduction.the-variants.{Unintroduced, One, Two}
 use Rattle.device.specs.declared.Head.{Head}
 use Rattle.device.specs.declared.Rows.{Rows}
-use Rattle.device.specs.declared.Scope.the-variants.{Everywhere}
+use Rattle.device.specs.declared.Scope.the-variants.{EveryRow}
 use Rattle.device.specs.Device.{startRows, replaced, streamTo, closed}
 use Rattle.requests.specs.declared.Requests.{Requests}
-use Rattle.requests.specs.Requests.{withRequest, released, cleared}
+use Rattle.requests.specs.Requests.{places, withRequest, released, cleared}
 use Rattle.events.specs.declared.Typed.{Typed}
 use Rattle.events.specs.declared.Typed.the-variants.{Untyped, OfEndpoint, OfMask}
 use Rattle.events.specs.Event.{Event}
 use Rattle.checks.specs.declared.Change.{Change}
-use Rattle.checks.specs.declared.Change.the-variants.{Nothing, Hello as Greet, Connect, Interfaces, Endpoints, Disconnect, Reset, Acknowledge, Take, Start, Answer}
+use Rattle.checks.specs.declared.Change.the-variants.{NoChange, Hello as Greet, Connect, Interfaces, Endpoints, Disconnect, Reset, Acknowledge, Take, TakeAndOpen, Release}
 use Rattle.checks.specs.Checks.{Match, matchOf, numberFor}
 use Rattle.checks.specs.Change.{changeFor}
 use Rattle.session.specs.declared.Session.{Session}
@@ -28,21 +28,17 @@ use Rattle.session.specs.Session.{sharedIn}
 -- ---- the head
 
 -- the first capability word of a side's hello; one that has passed stays as it is
-abbrev pub keptHello : Hello → ℕ → Hello
+abbrev pub keptHello : HelloState → ℕ → HelloState
 keptHello Awaited word = Passed word
 keptHello (Passed w) word = Passed w
 
+abbrev pub hellosTo : Head → HelloState → HelloState → Head
+hellosTo h guest host =
+    record { guest = guest; host = host; stopped = h .stopped; held = h .held; present = h .present; introduction = h .introduction; owed = h .owed }
+
 abbrev pub helloTo : Head → Side → ℕ → Head
 helloTo h from word =
-    record {
-      guest = cond (isGuest from) (keptHello (h .guest) word) (h .guest);
-      host = cond (isGuest from) (h .host) (keptHello (h .host) word);
-      stopped = h .stopped;
-      held = h .held;
-      present = h .present;
-      introduction = h .introduction;
-      owed = h .owed;
-    }
+    hellosTo h (cond (isGuest from) (keptHello (h .guest) word) (h .guest)) (cond (isGuest from) (h .host) (keptHello (h .host) word))
 
 abbrev pub deviceTo : Head → Bool → Introduction → Bool → Head
 deviceTo h present i owed =
@@ -53,7 +49,7 @@ abbrev pub introduced : Introduction → Head → Head
 introduced i h = deviceTo h (h .present) (cond (h .present) (h .introduction) i) (h .owed)
 
 abbrev pub headAfter : Head → Side → Change → Head
-headAfter h from Nothing = h
+headAfter h from NoChange = h
 headAfter h from (Greet word) = helloTo h from word
 -- "1 needs two and makes the device present"
 headAfter h from Connect = deviceTo h true (h .introduction) (h .owed)
@@ -66,8 +62,8 @@ headAfter h from Reset = h
 -- "24 clears it"
 headAfter h from Acknowledge = deviceTo h (h .present) (h .introduction) false
 headAfter h from (Take i q) = h
-headAfter h from (Start i q typed) = h
-headAfter h from (Answer i typed opens scope) = h
+headAfter h from (TakeAndOpen i q typed) = h
+headAfter h from (Release i typed opens scope) = h
 
 -- ---- the rows
 
@@ -79,7 +75,7 @@ streamBy rows (OfMask m ty) b = rows
 
 -- new: the rows that the packet announces
 abbrev pub rowsAfter : Rows → Change → Rows → Rows
-rowsAfter rows Nothing new = rows
+rowsAfter rows NoChange new = rows
 rowsAfter rows (Greet word) new = rows
 rowsAfter rows Connect new = rows
 rowsAfter rows Interfaces new = rows
@@ -87,17 +83,17 @@ rowsAfter rows Interfaces new = rows
 rowsAfter rows Endpoints new = replaced new rows
 rowsAfter rows Disconnect new = startRows
 -- "3 .. closes all streams"
-rowsAfter rows Reset new = closed rows Everywhere
+rowsAfter rows Reset new = closed rows EveryRow
 rowsAfter rows Acknowledge new = rows
 rowsAfter rows (Take i q) new = rows
 -- "a passed start opens; a status opens .. and otherwise closes"
-rowsAfter rows (Start i q typed) new = streamBy rows typed true
-rowsAfter rows (Answer i typed opens scope) new = closed (streamBy rows typed opens) scope
+rowsAfter rows (TakeAndOpen i q typed) new = streamBy rows typed true
+rowsAfter rows (Release i typed opens scope) new = closed (streamBy rows typed opens) scope
 
 -- ---- the requests
 
 abbrev pub requestsAfter : Requests → Rows → Change → Requests
-requestsAfter t rows Nothing = t
+requestsAfter t rows NoChange = t
 requestsAfter t rows (Greet word) = t
 requestsAfter t rows Connect = t
 requestsAfter t rows Interfaces = t
@@ -106,10 +102,10 @@ requestsAfter t rows Endpoints = t
 requestsAfter t rows Disconnect = cleared t
 requestsAfter t rows Reset = cleared t
 requestsAfter t rows Acknowledge = t
-requestsAfter t rows (Take i q) = cond (ltb i 96) (withRequest t i q) t
-requestsAfter t rows (Start i q typed) = cond (ltb i 96) (withRequest t i q) t
+requestsAfter t rows (Take i q) = withRequest t i q
+requestsAfter t rows (TakeAndOpen i q typed) = withRequest t i q
 -- "A passed reply frees the place", and the data requests that end with it
-requestsAfter t rows (Answer i typed opens scope) = cond (ltb i 96) (released t i rows scope) t
+requestsAfter t rows (Release i typed opens scope) = cond (ltb i places) (released t i rows scope) t
 
 -- ---- the session after a packet that passed, and the judge's answer
 

@@ -4,10 +4,10 @@ ghost use mathlib.Core.Bool.{cond};
 ghost use lib.Dec.{ltb};
 ghost use Rattle.device.specs.declared.Rows.{Rows};
 ghost use Rattle.requests.specs.declared.Requests.{Requests};
-ghost use Rattle.requests.specs.Requests.{noRequest, withRequest, released};
+ghost use Rattle.requests.specs.Requests.{places, noRequest, released};
 ghost use Rattle.session.specs.Edit.{Moves, wideEdit, Edits, Stores};
 ghost use Rattle.session.specs.Session.{freshSession, linkTo, sharedIn, heldIn, countAs, heldTo, heldBad, unfit};
-ghost use Rattle.session.specs.Step.{keptHello, helloTo, deviceTo, introduced, headAfter, streamBy, rowsAfter, requestsAfter, applied};
+ghost use Rattle.session.specs.Step.{keptHello, hellosTo, helloTo, deviceTo, introduced, headAfter, streamBy, rowsAfter, requestsAfter, applied};
 use checks::Change;
 use device::Head;
 use device::Held;
@@ -22,12 +22,14 @@ use device::start_head;
 use device::start_rows;
 use device::stream_row;
 use events::Typed;
-use header::Hello;
+use header::HOLD_SIZE;
+use header::HelloState;
 use header::Link;
 use header::Side;
 use header::has_passed;
 use header::shared_set;
-use number::has_bit;
+use octets::has_bit;
+use requests::PLACES;
 use requests::Request;
 use requests::Requests;
 use requests::clear;
@@ -36,6 +38,9 @@ use requests::fresh;
 use requests::ids_differ;
 use requests::release;
 use requests::take;
+
+// The most bytes that are held: the longest packet but for its last byte.
+const MAX_HELD: usize = HOLD_SIZE - 1;
 
 // The head is small and changes often; the rows of the device and the table of requests are columns, which are lent.
 pub struct Session {
@@ -83,7 +88,7 @@ pub fn link_to(h: Head, from: Side) -> Link
     }
 }
 
-fn is_shared(h: Head, bit: u32) -> bool
+fn has_shared_bit(h: Head, bit: u32) -> bool
     ensures { λ r. ⌜ r ≡ sharedIn h bit ⌝ }
 {
     has_bit(shared_set(link_to(h, Side::Guest)), bit)
@@ -126,10 +131,10 @@ pub fn hold_to(h: Head, from: Side, n: usize, stopped: bool) -> Head
     next
 }
 
-fn is_held_bad(own: Hello, other: Hello, n: usize) -> bool
+fn is_held_bad(own: HelloState, other: HelloState, n: usize) -> bool
     ensures { λ r. ⌜ r ≡ heldBad own other n ⌝ }
 {
-    (32783 < n) | (has_passed(own) & !has_passed(other) & (0 < n))
+    (MAX_HELD < n) | (has_passed(own) & !has_passed(other) & (0 < n))
 }
 
 // What 43 tests of a session: held counts, ids of live requests, rows 0 and 16.
@@ -137,8 +142,8 @@ pub fn is_unfit<'a>(
     h: Head,
     types: &'a [u8; 32],
     used: usize,
-    live: &'a [bool; 96],
-    ids: &'a [u64; 96],
+    live: &'a [bool; PLACES],
+    ids: &'a [u64; PLACES],
 ) -> bool
     ensures { λ r. ⌜ ((d : Rows) (t : Requests) → d .types ≡ now (types .entry) → t .used ≡ used → t .live ≡ now (live .entry) → t .ids ≡ now (ids .entry) → r ≡ unfit (record { head = h; rows = d; requests = t })) ⌝ }
 {
@@ -151,12 +156,28 @@ pub fn is_unfit<'a>(
         | !has_control_rows(types)
 }
 
-fn keep_hello(h: Hello, word: u32) -> Hello
+fn keep_hello(h: HelloState, word: u32) -> HelloState
     ensures { λ r. ⌜ r ≡ keptHello h word ⌝ }
 {
     match h {
-        Hello::Awaited => Hello::Passed(word),
-        Hello::Passed(w) => Hello::Passed(w),
+        HelloState::Awaited => HelloState::Passed(word),
+        HelloState::Passed(w) => HelloState::Passed(w),
+    }
+}
+
+fn with_hellos(h: Head, guest: HelloState, host: HelloState) -> Head
+    ensures { λ r. ⌜ r ≡ hellosTo h guest host ⌝ }
+{
+    let held = h.held;
+    let introduction = h.introduction;
+    Head {
+        guest,
+        host,
+        stopped: h.stopped,
+        held,
+        present: h.present,
+        introduction,
+        owed: h.owed,
     }
 }
 
@@ -165,27 +186,9 @@ fn with_hello(h: Head, from: Side, word: u32) -> Head
 {
     let guest = h.guest;
     let host = h.host;
-    let held = h.held;
-    let introduction = h.introduction;
     match from {
-        Side::Guest => Head {
-            guest: keep_hello(guest, word),
-            host,
-            stopped: h.stopped,
-            held,
-            present: h.present,
-            introduction,
-            owed: h.owed,
-        },
-        Side::Host => Head {
-            guest,
-            host: keep_hello(host, word),
-            stopped: h.stopped,
-            held,
-            present: h.present,
-            introduction,
-            owed: h.owed,
-        },
+        Side::Guest => with_hellos(h, keep_hello(guest, word), host),
+        Side::Host => with_hellos(h, guest, keep_hello(host, word)),
     }
 }
 
@@ -222,17 +225,22 @@ fn head_after(h: Head, from: Side, c: Change) -> Head
 {
     let introduction = h.introduction;
     match c {
-        Change::Nothing => h,
+        Change::NoChange => h,
         Change::Hello(word) => with_hello(h, from, word),
         Change::Connect => with_device(h, true, introduction, h.owed),
         Change::Interfaces => introduce(h, Introduction::Two),
         Change::Endpoints => introduce(h, Introduction::One),
-        Change::Disconnect => with_device(h, false, Introduction::Nothing, is_shared(h, 3)),
+        Change::Disconnect => with_device(
+            h,
+            false,
+            Introduction::Unintroduced,
+            has_shared_bit(h, 3),
+        ),
         Change::Reset => h,
         Change::Acknowledge => with_device(h, h.present, introduction, false),
         Change::Take(_, _) => h,
-        Change::Start(_, _, _) => h,
-        Change::Answer(_, _, _, _) => h,
+        Change::TakeAndOpen(_, _, _) => h,
+        Change::Release(_, _, _, _) => h,
     }
 }
 
@@ -251,33 +259,27 @@ fn rows_after(rows: Rows, c: Change, new: Rows) -> Rows
     ensures { λ r. ⌜ r ≡ rowsAfter rows c new ⌝ }
 {
     match c {
-        Change::Nothing => rows,
+        Change::NoChange => rows,
         Change::Hello(_) => rows,
         Change::Connect => rows,
         Change::Interfaces => rows,
         Change::Endpoints => replace(rows, new),
         Change::Disconnect => start_rows(),
-        Change::Reset => close(rows, Scope::Everywhere),
+        Change::Reset => close(rows, Scope::EveryRow),
         Change::Acknowledge => rows,
         Change::Take(_, _) => rows,
-        Change::Start(_, _, typed) => stream_by(rows, typed, true),
-        Change::Answer(_, typed, opens, scope) => close(stream_by(rows, typed, opens), scope),
+        Change::TakeAndOpen(_, _, typed) => stream_by(rows, typed, true),
+        Change::Release(_, typed, opens, scope) => close(stream_by(rows, typed, opens), scope),
     }
 }
 
-fn take_at(t: Requests, i: usize, q: Request) -> Requests
-    ensures { λ r. ⌜ r ≡ cond (ltb i 96) (withRequest t i q) t ⌝ }
-{
-    if i < 96 { take(t, i, q) } else { t }
-}
-
 fn release_at(t: Requests, i: usize, rows: Rows, scope: Scope) -> Requests
-    ensures { λ r. ⌜ r ≡ cond (ltb i 96) (released t i rows scope) t ⌝ }
+    ensures { λ r. ⌜ r ≡ cond (ltb i places) (released t i rows scope) t ⌝ }
 {
-    if i < 96 {
+    if i < PLACES {
         match scope {
-            Scope::Nowhere => free(t, i),
-            Scope::Everywhere => release(t, i, rows, scope),
+            Scope::NoRow => free(t, i),
+            Scope::EveryRow => release(t, i, rows, scope),
             Scope::OfInterface(_) => release(t, i, rows, scope),
         }
     } else {
@@ -290,7 +292,7 @@ fn requests_after(t: Requests, rows: Rows, c: Change) -> Requests
     ensures { λ r. ⌜ r ≡ requestsAfter t rows c ⌝ }
 {
     match c {
-        Change::Nothing => t,
+        Change::NoChange => t,
         Change::Hello(_) => t,
         Change::Connect => t,
         Change::Interfaces => t,
@@ -298,9 +300,9 @@ fn requests_after(t: Requests, rows: Rows, c: Change) -> Requests
         Change::Disconnect => clear(t),
         Change::Reset => clear(t),
         Change::Acknowledge => t,
-        Change::Take(i, q) => take_at(t, i, q),
-        Change::Start(i, q, _) => take_at(t, i, q),
-        Change::Answer(i, _, _, scope) => release_at(t, i, rows, scope),
+        Change::Take(i, q) => take(t, i, q),
+        Change::TakeAndOpen(i, q, _) => take(t, i, q),
+        Change::Release(i, _, _, scope) => release_at(t, i, rows, scope),
     }
 }
 
@@ -367,7 +369,7 @@ fn no_request() -> Request
 fn wide_edit() -> Edit
     ensures { λ r. ⌜ r ≡ wideEdit ⌝ }
 {
-    edit_with(32, false, 96, false, no_request(), true)
+    edit_with(32, false, PLACES, false, no_request(), true)
 }
 
 // A change as an edit.
@@ -376,7 +378,7 @@ pub fn edit_of(types: &[u8; 32], c: Change) -> Edit
 {
     let none = no_request();
     match c {
-        Change::Nothing => edit_with(32, false, 96, false, none, false),
+        Change::NoChange => edit_with(32, false, PLACES, false, none, false),
         Change::Hello(_) => wide_edit(),
         Change::Connect => wide_edit(),
         Change::Interfaces => wide_edit(),
@@ -385,11 +387,18 @@ pub fn edit_of(types: &[u8; 32], c: Change) -> Edit
         Change::Reset => wide_edit(),
         Change::Acknowledge => wide_edit(),
         Change::Take(i, q) => edit_with(32, false, i, true, q, false),
-        Change::Start(i, q, typed) => edit_with(row_moved(types, typed), true, i, true, q, false),
-        Change::Answer(i, typed, opens, scope) => {
+        Change::TakeAndOpen(i, q, typed) => edit_with(
+            row_moved(types, typed),
+            true,
+            i,
+            true,
+            q,
+            false,
+        ),
+        Change::Release(i, typed, opens, scope) => {
             match scope {
-                Scope::Nowhere => edit_with(row_moved(types, typed), opens, i, false, none, false),
-                Scope::Everywhere => wide_edit(),
+                Scope::NoRow => edit_with(row_moved(types, typed), opens, i, false, none, false),
+                Scope::EveryRow => wide_edit(),
                 Scope::OfInterface(_) => wide_edit(),
             }
         }
@@ -401,9 +410,9 @@ pub fn store(
     e: Edit,
     used: usize,
     streams: &mut [bool; 32],
-    live: &mut [bool; 96],
-    kinds: &mut [u8; 96],
-    ids: &mut [u64; 96],
+    live: &mut [bool; PLACES],
+    kinds: &mut [u8; PLACES],
+    ids: &mut [u64; PLACES],
 ) -> usize
     ensures { λ r. ⌜ Stores e used (now (streams .entry)) (now (live .entry)) (now (kinds .entry)) (now (ids .entry)) r (now (streams .exit)) (now (live .exit)) (now (kinds .exit)) (now (ids .exit)) ⌝ }
 {
@@ -413,7 +422,7 @@ pub fn store(
     }
     let place = e.place;
     let q = e.request;
-    if place < 96 {
+    if place < PLACES {
         live[place] = e.live;
         kinds[place] = q.kind;
         ids[place] = q.id;

@@ -1,2 +1,4 @@
-pub mod Laws
+pub mod BytesTaken
+pub mod Parts
+pub mod CallLines
 pub mod Lines

@@ -18,10 +18,10 @@ use Rattle.header.specs.declared.Side.the-variants.{Guest, Host}
 use Rattle.capture.specs.declared.Line.{Line as Decoded}
 use Rattle.capture.specs.declared.Line.the-variants.{Bad, Piece}
 use Rattle.capture.specs.Lines.{lineOf, badLine, Decodes, Forms}
-use Rattle.capture.specs.Laws.{told-bad, told-piece}
+use Rattle.capture.proofs.LineLaws.{told-bad, told-piece}
 use Rattle.transcript.specs.declared.Reported.{Reported}
-use Rattle.transcript.specs.declared.Next.the-variants.{Line, Wait}
-use Rattle.transcript.specs.Piece.{reportOf, Reports}
+use Rattle.transcript.specs.declared.NextLine.the-variants.{LineEnd, Wait}
+use Rattle.transcript.specs.Piece.{reportOf, LaysReport}
 use Rattle.transcript.specs.Input.{Progress, stepOf, lineEnd, nextOf, PieceReports, LineReports}
 
 -- ---- where a line ends
@@ -40,7 +40,7 @@ module _ (l : List ℕ) (i : ℕ) where
   end-none h = rw (drop-of-length-le l h)
 
 module _ (bytes : List ℕ) (last : Bool) {e : ℕ} (ee : e ≡ lineEnd bytes) where
-  pub next-line : (ltb e (length bytes) || ltb 4113 (length bytes) || (last && ltb 0 (length bytes))) ≡ true → Line e ≡ nextOf bytes last
+  pub next-line : (ltb e (length bytes) || ltb 4113 (length bytes) || (last && ltb 0 (length bytes))) ≡ true → LineEnd e ≡ nextOf bytes last
   next-line t = rw (← ee, t)
 
   pub next-wait : (ltb e (length bytes) || ltb 4113 (length bytes) || (last && ltb 0 (length bytes))) ≡ false → Wait ≡ nextOf bytes last
@@ -49,11 +49,11 @@ module _ (bytes : List ℕ) (last : Bool) {e : ℕ} (ee : e ≡ lineEnd bytes) w
 -- ---- a piece, with both buffers
 
 module _ (p : Progress) (piece out : List ℕ) {from : Side} {r : Reported} {hold out-after : List ℕ} where
-  pub from-guest : from ≡ Guest → Reports (reportOf Guest (p .session) (p .totals) (p .guest) piece) out r hold out-after
+  pub from-guest : from ≡ Guest → LaysReport (reportOf Guest (p .session) (p .totals) (p .guest) piece) out r hold out-after
       → PieceReports from p piece out r hold (p .host) out-after
   from-guest e q = rw e (record { next = rw (q .session, q .totals, q .hold); size = q .size; output = q .output })
 
-  pub from-host : from ≡ Host → Reports (reportOf Host (p .session) (p .totals) (p .host) piece) out r hold out-after
+  pub from-host : from ≡ Host → LaysReport (reportOf Host (p .session) (p .totals) (p .host) piece) out r hold out-after
       → PieceReports from p piece out r (p .guest) hold out-after
   from-host e q = rw e (record { next = rw (q .session, q .totals, q .hold); size = q .size; output = q .output })
 

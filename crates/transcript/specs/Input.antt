@@ -16,9 +16,10 @@ use Rattle.capture.specs.Lines.{SentPiece, lineOf, totalsLine, badLine, largest
 use Rattle.transcript.specs.declared.Totals.{Totals}
 use Rattle.transcript.specs.declared.Reported.{Reported}
 use Rattle.transcript.specs.declared.Lined.{Lined}
-use Rattle.transcript.specs.declared.Next.{Next}
-use Rattle.transcript.specs.declared.Next.the-variants.{Line, Wait}
+use Rattle.transcript.specs.declared.NextLine.{NextLine}
+use Rattle.transcript.specs.declared.NextLine.the-variants.{LineEnd, Wait}
 use Rattle.transcript.specs.Piece.{Report, reportOf}
+use Rattle.header.specs.Header.{holdSize}
 
 -- ---- a line
 
@@ -42,13 +43,13 @@ movedBy Guest p g = record { session = g .session; totals = g .totals; guest = g
 movedBy Host p g = record { session = g .session; totals = g .totals; guest = p .guest; host = g .hold }
 
 -- what a line gives: the progress after it, what it prints, and whether it is bad
-pub record Step : Type 0 where
+pub record LineStep : Type 0 where
   pub next : Progress
   pub prints : List ℕ
   pub bad : Bool
 
 -- "An undecodable line prints `line=bad` and ends input"
-abbrev pub stepOf : Progress → Option SentPiece → Step
+abbrev pub stepOf : Progress → Option SentPiece → LineStep
 stepOf p none = record { next = p; prints = badLine; bad = true }
 stepOf p (some o) = record { next = movedBy (o .from) p (pieceReport p o); prints = pieceReport p o .lines; bad = false }
 
@@ -75,7 +76,7 @@ outputFrom p (line ∷ lines) =
 
 unfoldable pub start : Progress
 start =
-    record { session = freshSession; totals = record { passed = 0; refused = 0 }; guest = replicate 32784 0; host = replicate 32784 0 }
+    record { session = freshSession; totals = record { passed = 0; refused = 0 }; guest = replicate holdSize 0; host = replicate holdSize 0 }
 
 abbrev pub outputOf : List ℕ → List ℕ
 outputOf input = outputFrom start (linesOf input)
@@ -92,8 +93,8 @@ lineEnd (b ∷ l) = cond (eqb b 10) 0 (suc (lineEnd l))
 abbrev pub beginsLine : List ℕ → Bool → Bool
 beginsLine bytes last = ltb (lineEnd bytes) (length bytes) || ltb 4113 (length bytes) || (last && ltb 0 (length bytes))
 
-abbrev pub nextOf : List ℕ → Bool → Next
-nextOf bytes last = cond (beginsLine bytes last) (Line (lineEnd bytes)) Wait
+abbrev pub nextOf : List ℕ → Bool → NextLine
+nextOf bytes last = cond (beginsLine bytes last) (LineEnd (lineEnd bytes)) Wait
 
 -- ---- what the code's types say
 
@@ -105,7 +106,7 @@ pub record PieceReports (from : Side) (p : Progress) (piece out : List ℕ) (r :
   pub output : out-after ≡ sets out 0 (pieceReport p (record { from = from; bytes = piece }) .lines)
 
 -- what is printed stands at the front of the output, as far as it goes; told is how many bytes it has, or the largest number
-pub record LineReports (g : Step) (out : List ℕ) (r : Lined) (guest-after host-after out-after : List ℕ) : Type 0 where
+pub record LineReports (g : LineStep) (out : List ℕ) (r : Lined) (guest-after host-after out-after : List ℕ) : Type 0 where
   pub next : record { session = r .reported .session; totals = r .reported .totals; guest = guest-after; host = host-after } ≡ g .next
   pub size : r .reported .size ≡ min (length (g .prints)) largest
   pub bad : r .bad ≡ g .bad

@@ -17,7 +17,7 @@ use Rattle.gate.specs.Offer.{Outcome, offerOf}
 use Rattle.capture.specs.Lines.{answerLine, largest}
 use Rattle.transcript.specs.declared.Totals.{Totals}
 use Rattle.transcript.specs.declared.Reported.{Reported}
-use Rattle.transcript.specs.declared.Called.{Called}
+use Rattle.transcript.specs.declared.CallReported.{CallReported}
 
 -- ---- one call
 
@@ -33,7 +33,7 @@ abbrev pub lineAt : Side → Link → ℕ → List ℕ → List ℕ
 lineAt from l n bytes = answerLine from (kindOf bytes) (lengthOf bytes) (idOf l bytes) n
 
 abbrev pub lineFor : Side → Link → Outcome → List ℕ → List ℕ
-lineFor from l o rest = cond (givesLine (o .number)) (lineAt from l (o .number) (bytesAt (o .place) (o .size) rest (o .hold))) []
+lineFor from l o rest = cond (givesLine (o .number)) (lineAt from l (o .number) (bytesAt (o .location) (o .size) rest (o .hold))) []
 
 -- a + b, and the largest number where that is more
 abbrev pub saturated : ℕ → ℕ → ℕ
@@ -51,8 +51,8 @@ totalsFor t n = cond (givesLine n) (counted t n) t
 
 -- the bytes of the rest that are over after a call: those taken; or all of it, where the answer has no line. At 1 they are all taken.
 -- "offered until .. answered 2 or 3": then the piece is over, and what is left of it is lost.
-abbrev pub usedBy : Outcome → List ℕ → ℕ
-usedBy o rest = cond (givesLine (o .number)) (o .taken) (length rest)
+abbrev pub bytesUsed : Outcome → List ℕ → ℕ
+bytesUsed o rest = cond (givesLine (o .number)) (o .taken) (length rest)
 
 -- ---- a piece
 
@@ -63,8 +63,8 @@ pub record Report : Type 0 where
   pub lines : List ℕ
   pub hold : List ℕ
 
-abbrev pub called : Side → Report → List ℕ → Outcome → Report
-called from r rest o =
+abbrev pub withCall : Side → Report → List ℕ → Outcome → Report
+withCall from r rest o =
     record {
       session = o .session;
       totals = totalsFor (r .totals) (o .number);
@@ -72,15 +72,15 @@ called from r rest o =
       hold = o .hold;
     }
 
-abbrev pub offered : Side → Report → List ℕ → Outcome
-offered from r rest = offerOf from (r .session) (r .hold) rest
+abbrev pub restOffered : Side → Report → List ℕ → Outcome
+restOffered from r rest = offerOf from (r .session) (r .hold) rest
 
 -- "offered until used up ..; an empty rest is used up and not offered": by at most so many calls
 unfoldable pub reportBy : ℕ → Side → Report → List ℕ → Report
 reportBy zero from r rest = r
 reportBy (suc n) from r [] = r
 reportBy (suc n) from r (b ∷ rest) =
-    reportBy n from (called from r (b ∷ rest) (offered from r (b ∷ rest))) (drop (usedBy (offered from r (b ∷ rest)) (b ∷ rest)) (b ∷ rest))
+    reportBy n from (withCall from r (b ∷ rest) (restOffered from r (b ∷ rest))) (drop (bytesUsed (restOffered from r (b ∷ rest)) (b ∷ rest)) (b ∷ rest))
 
 -- A call that does not end the piece takes some of it (`call-takes`), so that there are no more calls than bytes: more change nothing
 -- (`more-calls`).
@@ -91,7 +91,7 @@ reportOf from s t hold piece = reportBy (length piece) from (record { session = 
 
 -- The lines stand at the front of the output, as far as it goes, and the rest of it is as it was; told is how many bytes they have, or
 -- the largest number.
-pub record Reports (g : Report) (out : List ℕ) (r : Reported) (hold-after out-after : List ℕ) : Type 0 where
+pub record LaysReport (g : Report) (out : List ℕ) (r : Reported) (hold-after out-after : List ℕ) : Type 0 where
   pub session : r .session ≡ g .session
   pub totals : r .totals ≡ g .totals
   pub size : r .size ≡ min (length (g .lines)) largest
@@ -99,10 +99,10 @@ pub record Reports (g : Report) (out : List ℕ) (r : Reported) (hold-after out-
   pub output : out-after ≡ sets out 0 (g .lines)
 
 -- one call, which adds its line behind those of the calls before it
-pub record Calls (from : Side) (r : Reported) (rest out : List ℕ) (o : Outcome) (c : Called) (hold-after out-after : List ℕ) : Type 0 where
+pub record CallReports (from : Side) (r : Reported) (rest out : List ℕ) (o : Outcome) (c : CallReported) (hold-after out-after : List ℕ) : Type 0 where
   pub session : c .reported .session ≡ o .session
   pub totals : c .reported .totals ≡ totalsFor (r .totals) (o .number)
   pub size : c .reported .size ≡ saturated (r .size) (length (lineFor from (linkOf from (r .session)) o rest))
-  pub used : c .used ≡ usedBy o rest
+  pub used : c .used ≡ bytesUsed o rest
   pub hold : hold-after ≡ o .hold
   pub output : out-after ≡ sets out (r .size) (lineFor from (linkOf from (r .session)) o rest)

@@ -3,7 +3,7 @@
 ghost use mathlib.Core.Path.{_≡_};
 ghost use Rattle.gate.specs.Offer.{offerOf};
 ghost use Rattle.capture.specs.Lines.{lineOf};
-ghost use Rattle.transcript.specs.Piece.{givesLine, saturated, counted, reportOf, Reports, Calls};
+ghost use Rattle.transcript.specs.Piece.{givesLine, saturated, counted, reportOf, LaysReport, CallReports};
 ghost use Rattle.transcript.specs.Input.{stepOf, lineEnd, nextOf, PieceReports, LineReports};
 use capture::Line;
 use capture::decode_line;
@@ -13,7 +13,7 @@ use gate::bytes_of;
 use gate::offer;
 use header::Side;
 use header::read_header;
-use number::part;
+use octets::part;
 use session::Session;
 use session::link_to;
 
@@ -31,7 +31,7 @@ pub struct Reported {
 }
 
 // The same after one call, and the bytes of the piece that are over.
-struct Called {
+struct CallReported {
     reported: Reported,
     used: usize,
 }
@@ -43,8 +43,8 @@ pub struct Lined {
 }
 
 // What unread input begins with: a line of so many bytes, without its newline; or what comes next has to decide.
-pub enum Next {
-    Line(usize),
+pub enum NextLine {
+    LineEnd(usize),
     Wait,
 }
 
@@ -56,7 +56,7 @@ fn gives_line(number: u8) -> bool
 }
 
 // a + b, and the largest number where that is more.
-fn saturating_add(a: u64, b: u64) -> u64
+pub fn saturating_add(a: u64, b: u64) -> u64
     ensures { λ r. ⌜ r ≡ saturated a b ⌝ }
 {
     if b <= 18446744073709551615 - a {
@@ -79,8 +79,14 @@ fn count(t: Totals, number: u8) -> Totals
 }
 
 // Offers what is left of a piece once, and lays the answer's line behind those of the calls before.
-fn report_call(r: Reported, from: Side, hold: &mut [u8], rest: &[u8], out: &mut [u8]) -> Called
-    ensures { λ c. ⌜ Calls from r (now (rest .entry)) (now (out .entry)) (offerOf from (r .session) (now (hold .entry)) (now (rest .entry))) c (now (hold .exit)) (now (out .exit)) ⌝ }
+fn report_call(
+    r: Reported,
+    from: Side,
+    hold: &mut [u8],
+    rest: &[u8],
+    out: &mut [u8],
+) -> CallReported
+    ensures { λ c. ⌜ CallReports from r (now (rest .entry)) (now (out .entry)) (offerOf from (r .session) (now (hold .entry)) (now (rest .entry))) c (now (hold .exit)) (now (out .exit)) ⌝ }
 {
     let before = r.session;
     let totals = r.totals;
@@ -93,7 +99,7 @@ fn report_call(r: Reported, from: Side, hold: &mut [u8], rest: &[u8], out: &mut 
             totals,
             size: r.size,
         };
-        return Called {
+        return CallReported {
             reported,
             used: rest.len(),
         };
@@ -108,7 +114,7 @@ fn report_call(r: Reported, from: Side, hold: &mut [u8], rest: &[u8], out: &mut 
         totals,
         size,
     };
-    Called {
+    CallReported {
         reported,
         used: answer.taken,
     }
@@ -124,7 +130,7 @@ pub fn report_piece(
     piece: &[u8],
     out: &mut [u8],
 ) -> Reported
-    ensures { λ r. ⌜ Reports (reportOf from s t (now (hold .entry)) (now (piece .entry))) (now (out .entry)) r (now (hold .exit)) (now (out .exit)) ⌝ }
+    ensures { λ r. ⌜ LaysReport (reportOf from s t (now (hold .entry)) (now (piece .entry))) (now (out .entry)) r (now (hold .exit)) (now (out .exit)) ⌝ }
 {
     let mut r = Reported {
         session: s,
@@ -208,14 +214,14 @@ fn line_end(bytes: &[u8]) -> usize
 }
 
 // What unread bytes, the last of the input or not, begin with. More than the longest good line has, 17 and 4,096, are a line.
-pub fn next_line(bytes: &[u8], last: bool) -> Next
+pub fn next_line(bytes: &[u8], last: bool) -> NextLine
     ensures { λ r. ⌜ r ≡ nextOf (now (bytes .entry)) last ⌝ }
 {
     let end = line_end(bytes);
     let n = bytes.len();
     if (end < n) | (4113 < n) | (last & (0 < n)) {
-        Next::Line(end)
+        NextLine::LineEnd(end)
     } else {
-        Next::Wait
+        NextLine::Wait
     }
 }

@@ -14,20 +14,21 @@ use lib.ListN.{length, drop}
 use lib.Dec.{eqb, ltb}
 use borrow.Author.Tests.{eqb-true, ne-eqb}
 use borrow.Table.Steps.{cases}
-use Rattle.number.specs.Bits.{hasBit}
-use Rattle.number.specs.Laws.{le-front}
-use Rattle.number.specs.Logic.{and-parts}
+use Rattle.octets.specs.Bits.{hasBit}
+use Rattle.octets.proofs.Integers.{le-front}
+use Rattle.octets.proofs.Logic.{and-parts}
 use Rattle.header.specs.declared.Side.{Side}
 use Rattle.header.specs.declared.Link.{Link}
 use Rattle.header.specs.Link.{sharedSet, passed, own}
 use Rattle.header.specs.Header.{kindOf, lengthOf, headerSize, headerNumber}
-use Rattle.header.specs.Laws.{wide, narrow, short}
+use Rattle.header.proofs.Widths.{wide, narrow, short}
 use Rattle.kinds.specs.Table.{Bits, always, bit, bits, status, endpoint, zero-without, Field, Kind, u8, u16, u32, _is_, kinds, kindAt}
 use Rattle.kinds.specs.Content.{Value, Content, shared, sizeOf, size, named, find, fieldsOf}
 use Rattle.kinds.specs.Number.{sends, surplus, wideId, sizeOk, badField, badFields, badTail, badId, orElse, bad, isNone, streamsAlone, inOrder, kindNumber, byKind, wireNumber}
 use Rattle.kinds.specs.Codec.{layout, decode, encode, orNext, readNumber, bodyLength, packetNumber, Accepted}
-use Rattle.kinds.specs.Laws.{isNone-left, isNone-right, first-good, FitField, Fit}
-use Rattle.kinds.specs.RoundTrip.{accepted, RoundTrip, round-trip}
+use Rattle.kinds.proofs.FieldBytes.{isNone-left, isNone-right, first-good, FitField, Fit}
+use Rattle.kinds.specs.RoundTrip.{RoundTrip}
+use Rattle.kinds.proofs.RoundTrip.{accepted, round-trip}
 use Rattle.wire.specs.Wire.{Wire, Good, WireLaws}
 use Rattle.wire.specs.Prefix.{allBytes, AllAccepted, same, not-begun, apart}
 

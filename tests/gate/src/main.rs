@@ -27,6 +27,8 @@ const FIXED_SEEDS: [u64; 2] = [1, 2];
 const PACKETS: usize = 100_000;
 /// Streams cut in two ways, for each seed.
 const CUTS: usize = 300;
+/// Sessions with other ignored bits and words, for each seed.
+const SESSIONS: usize = 300;
 /// Numbers that have to occur in the comparison.
 const NUMBERS: [u8; 24] = [
     0, 1, 2, 3, 10, 11, 12, 13, 20, 21, 22, 23, 24, 25, 26, 27, 28, 29, 30, 31, 32, 33, 34, 41,
@@ -57,6 +59,11 @@ fn main() -> ExitCode {
             all_occur(&counts),
         );
         test(&mut report, &format!("cuts, seed {seed}"), cuts(seed));
+        test(
+            &mut report,
+            &format!("ignored bits and words, seed {seed}"),
+            ignored(seed),
+        );
     }
     capture_tests(&mut report);
     report.finish()
@@ -204,6 +211,61 @@ fn cuts(seed: u64) -> Result<String, String> {
     Ok(format!(
         "{packets} packets of {CUTS} sessions, each cut in three ways"
     ))
+}
+
+/// Sessions whose hellos differ only in the bits and words that are ignored: the same numbers.
+fn ignored(seed: u64) -> Result<String, String> {
+    let mut random = Random::new(seed ^ 0x626974);
+    let sets = shared_sets();
+    let (mut packets, mut hellos) = (0, 0);
+    for round in 0..SESSIONS {
+        let style = Style::random(&mut random, sets[round % sets.len()]);
+        let items = plan(&mut random, &style).into_iter();
+        let script = Script {
+            hold_size: HOLD_SIZE,
+            fill: random.next(),
+            items: items.map(|(from, piece)| Item { from, piece }).collect(),
+        };
+        let told = compare(&script).map_err(|wrong| format!("round {round}, {wrong}"))?;
+        let mut other = script.clone();
+        for (item, call) in other.items.iter_mut().zip(&told.calls) {
+            let whole = call.size as usize == item.piece.len();
+            if whole && matches!(call.number, 0 | 13) && item.piece[..4] == [0; 4] {
+                change_ignored(&mut random, &mut item.piece);
+                hellos += 1;
+            }
+        }
+        for run in [run as Run, run_by_value] {
+            let [one, two] = [&script, &other].map(|script| numbers(run, script));
+            if one != two {
+                return Err(format!(
+                    "round {round}, other numbers:\n{}{}",
+                    script.lines(),
+                    other.lines()
+                ));
+            }
+        }
+        packets += told.calls.iter().filter(|call| call.tells()).count();
+    }
+    Ok(format!(
+        "{packets} packets of {SESSIONS} sessions, {hellos} hellos changed"
+    ))
+}
+
+/// Other bits than 0 to 7 of a hello's first word, and other words behind it.
+fn change_ignored(random: &mut Random, hello: &mut Vec<u8>) {
+    hello.resize(hello.len().max(80), 0);
+    random.fill(&mut hello[77..80]);
+    hello.truncate(80);
+    let count = random.below(8);
+    hello.extend(random.bytes(4 * count));
+    let length = (hello.len() - 12) as u32;
+    hello[4..8].copy_from_slice(&length.to_le_bytes());
+}
+
+fn numbers(run: Run, script: &Script) -> Vec<u8> {
+    let told = by_drive(run, script);
+    told.calls.iter().map(|call| call.number).collect()
 }
 
 /// The packets and refused headers that a script's calls tell of.

@@ -4,7 +4,7 @@ use plain::{Answer, Place, Side};
 use tools::captures;
 
 extern "C" {
-    fn drive(
+    fn test_drive(
         script: *const u8,
         script_size: usize,
         holds: *mut u8,
@@ -13,7 +13,7 @@ extern "C" {
         out_size: usize,
     ) -> usize;
 
-    fn drive_by_value(
+    fn test_drive_by_value(
         script: *const u8,
         script_size: usize,
         holds: *mut u8,
@@ -34,7 +34,7 @@ pub fn run(script: &[u8], holds: &mut [u8], out: &mut [u8]) -> usize {
     // SAFETY: each pointer comes with the size of the slice it is taken from, and the slices that
     // are written are borrowed alone.
     unsafe {
-        drive(
+        test_drive(
             script.as_ptr(),
             script.len(),
             holds.as_mut_ptr(),
@@ -49,7 +49,7 @@ pub fn run(script: &[u8], holds: &mut [u8], out: &mut [u8]) -> usize {
 pub fn run_by_value(script: &[u8], holds: &mut [u8], out: &mut [u8]) -> usize {
     // SAFETY: as for `run`.
     unsafe {
-        drive_by_value(
+        test_drive_by_value(
             script.as_ptr(),
             script.len(),
             holds.as_mut_ptr(),

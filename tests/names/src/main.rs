@@ -95,16 +95,6 @@ fn main() -> ExitCode {
     for result in numbers::captures(&read("docs/PEERS.md"), &totals) {
         tests.test("docs/PEERS.md", result);
     }
-    let counted = |name: &String| {
-        let pattern = format!("crates/{name}/must-fail/*.edit");
-        let edits = names.files.iter().filter(|path| glob(&pattern, path));
-        edits.count().to_string()
-    };
-    let crates = names.crates.iter();
-    let wanted = crates.map(|name| (name.clone(), counted(name)));
-    for result in numbers::edits(&read("docs/STATUS.md"), wanted.collect()) {
-        tests.test("docs/STATUS.md", result);
-    }
     let (checked, texts) = (tests.names, tests.texts);
     println!("checked {checked} names, {texts} texts left unchecked");
     tests.count.finish()

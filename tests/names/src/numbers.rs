@@ -1,4 +1,4 @@
-//! Numbers of the documents: the totals of the captures, and how many must-fail edits a crate has.
+//! Numbers of the documents: the totals of the captures.
 
 use std::collections::BTreeMap;
 
@@ -65,19 +65,6 @@ pub fn captures(document: &str, totals: &str) -> Results {
     results
 }
 
-/// The table of crates: each crate once, with the number of its must-fail edits, or nothing for 0.
-pub fn edits(document: &str, wanted: BTreeMap<String, String>) -> Results {
-    let header = "| crate | check | must-fail edits |";
-    let rows = table(document, |line| line.starts_with(header));
-    let count = |cells: &[&str]| match cells.get(3) {
-        None | Some(&"") => "0".to_string(),
-        Some(count) => count.to_string(),
-    };
-    let rows = rows.iter().skip(2);
-    let rows = rows.map(|(line, cells)| (*line, cells[1], count(cells)));
-    agree(rows.collect(), wanted)
-}
-
 #[cfg(test)]
 mod tests {
     use super::*;
@@ -117,19 +104,5 @@ mod tests {
         said("`a1`: passed=5 refused=30", 4, 1);
         said("`a1`, `b_2` (passed=5)", 3, 1);
         said("passed=5 of `a1`", 3, 1);
-    }
-
-    #[test]
-    fn table_of_crates() {
-        let wanted = [("x", 1), ("y", 0)].map(|(name, n)| (name.to_string(), n.to_string()));
-        let said = |rows: &str, tests, wrong| {
-            let document = format!("| crate | check | must-fail edits |\n|---|---|\n{rows}");
-            counted(edits(&document, wanted.clone().into()), tests, wrong);
-        };
-        counted(edits("", wanted.clone().into()), 2, 2);
-        said("| `x` | 7 | 1 |\n| `y` | 7 |  |\n", 2, 0);
-        said("| `x` | 7 | 2 |\n| `y` | 7 | 1 |\n", 2, 2);
-        said("| `x` | 7 | 1 |\n", 2, 1);
-        said("| `x` | 7 | 1 |\n| `x` | 7 | 1 |\n| `z` |\n", 4, 3);
     }
 }

@@ -37,8 +37,7 @@ pub struct Handed {
     pub kind: u8,
     pub id: u64,
     pub header: usize,
-    /// What follows the fields that are single numbers, as offsets in the packet's bytes: a hello's
-    /// whole body, an interface table's rows, an endpoint table's whole body, a filter's string,
+    /// What follows the fields, as offsets in the packet's bytes: a hello's words, a filter's string,
     /// the data of kinds 100 to 104; else empty behind the header.
     pub data: Range<usize>,
 }
@@ -187,7 +186,7 @@ fn judged(
     if let Err(number) = session.judge(from, header, body) {
         return refused(number);
     }
-    let has_data = matches!(header.kind, 0 | 4 | 5 | 23 | 100..=104);
+    let has_data = matches!(header.kind, 0 | 23 | 100..=104);
     let start = header.size + data;
     let handed = Handed {
         kind: header.kind as u8,

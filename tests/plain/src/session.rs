@@ -13,7 +13,7 @@ const STALL: u8 = 4;
 pub struct Session {
     /// The first capability word of each side's hello, once it has passed.
     words: [Option<u32>; 2],
-    /// Bits in both words; none until both hellos have passed.
+    /// Of the bits that there are, those in both words; none until both hellos have passed.
     shared: u32,
     pub(crate) stopped: bool,
     /// Bytes of an unfinished packet in each side's holding buffer.
@@ -57,7 +57,7 @@ impl Session {
         self.words[side.index()].is_some()
     }
 
-    /// The shared set, as a mask; other bits of the words are in it too but never asked for.
+    /// The shared set, as a mask.
     pub fn shared(&self) -> u32 {
         self.shared
     }
@@ -134,7 +134,7 @@ impl Session {
     fn hello(&mut self, from: Side, body: &[u8]) {
         self.words[from.index()] = Some(first_word(body));
         if let [Some(guest), Some(host)] = self.words {
-            self.shared = guest & host;
+            self.shared = guest & host & bit::ALL;
         }
     }
 

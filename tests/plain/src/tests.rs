@@ -338,6 +338,35 @@ fn a_refused_header_begun_in_the_buffer_is_completed_there() {
 }
 
 #[test]
+fn what_follows_the_fields_is_handed_out() {
+    let mut gate = Gate::new();
+    for (from, words, data) in [(Guest, &[0, 7, 9][..], 76..88), (Host, &[], 76..76)] {
+        let answer = gate.offer(from, &hello(words));
+        assert_eq!(answer.handed.unwrap().data, data);
+    }
+    // A table has nothing but its fields.
+    for table in [endpoints(&[]), interfaces(), connect()] {
+        let answer = gate.offer(Host, &table);
+        assert_eq!(answer.handed.unwrap().data, 12..12);
+    }
+}
+
+#[test]
+fn other_bits_and_words_are_not_shared() {
+    for (guest, host, shared) in [
+        (&[u32::MAX, u32::MAX][..], &[u32::MAX, 0, u32::MAX][..], 255),
+        (&[0x8000_0120, 1], &[0x8000_0160], 32),
+        (&[0xffff_ff00, 255], &[0xffff_ffff, 255], 0),
+        (&[], &[u32::MAX], 0),
+    ] {
+        let mut gate = Gate::new();
+        gate.pass(Guest, &hello(guest));
+        gate.pass(Host, &hello(host));
+        assert_eq!(gate.session.shared(), shared);
+    }
+}
+
+#[test]
 fn a_packet_in_the_piece_is_not_copied() {
     let mut gate = Gate::greeted(0);
     assert!(gate
@@ -354,7 +383,7 @@ fn a_packet_in_the_piece_is_not_copied() {
         (answer.number, answer.taken, answer.place, answer.size),
         (0, 58, Place::Buffer, 108)
     );
-    assert_eq!(answer.handed.unwrap().data, 12..108);
+    assert_eq!(answer.handed.unwrap().data, 12..12);
     assert_eq!(&gate.host[..108], &bytes[..108]);
     assert!(gate.host[108..].iter().all(|byte| *byte == 0xee));
 }

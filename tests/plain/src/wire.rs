@@ -12,6 +12,16 @@ pub(crate) mod bit {
     pub const WIDE_IDS: u32 = 1 << 5;
     pub const BULK_LENGTH: u32 = 1 << 6;
     pub const BULK_RECEIVING: u32 = 1 << 7;
+
+    /// All that there are; what else a hello sets is ignored.
+    pub const ALL: u32 = STREAMS
+        | CONNECT_VERSION
+        | FILTER
+        | DISCONNECT_ACK
+        | MAX_PACKET
+        | WIDE_IDS
+        | BULK_LENGTH
+        | BULK_RECEIVING;
 }
 
 const VERSION_SIZE: usize = 64;
@@ -56,7 +66,7 @@ pub(crate) fn first_word(body: &[u8]) -> u32 {
 }
 
 /// The wire checks on a packet whose header isn't refused by 10 to 12. On success the offset in the
-/// body at which its data starts: what follows the fields that are single numbers.
+/// body at which what follows its fields starts: 0 in a kind of which nothing but fields is left.
 pub(crate) fn check(from: Side, shared: u32, header: &Header, body: &[u8]) -> Result<usize, u8> {
     let kind = header.kind;
     let (sent_by, needs) = sender_and_bit(kind).ok_or(20)?;
@@ -106,13 +116,13 @@ fn sized(from: Side, shared: u32, kind: u32, body: &[u8]) -> Option<usize> {
         0 => {
             let words = size.checked_sub(VERSION_SIZE)?;
             if words <= 32 && words % 4 == 0 {
-                Some(0)
+                Some(VERSION_SIZE)
             } else {
                 None
             }
         }
         1 => exact(if has(bit::CONNECT_VERSION) { 10 } else { 8 }, 0),
-        4 => exact(132, 4),
+        4 => exact(132, 0),
         5 => exact(
             if has(bit::MAX_PACKET | bit::STREAMS) {
                 288

@@ -3,7 +3,7 @@
 mod archive {
     // The archive takes a slice as a pointer, then its length.
     extern "C" {
-        pub fn replay(
+        pub fn test_replay(
             script: *const u8,
             script_size: usize,
             out: *mut u8,
@@ -17,5 +17,5 @@ pub fn replay(script: &[u8], out: &mut [u8]) -> usize {
     let (input, input_size) = (script.as_ptr(), script.len());
     let (output, output_size) = (out.as_mut_ptr(), out.len());
     // SAFETY: two slices that live over the call and don't overlap; only the second is written, within its length.
-    unsafe { archive::replay(input, input_size, output, output_size) }
+    unsafe { archive::test_replay(input, input_size, output, output_size) }
 }

@@ -31,7 +31,7 @@ pub fn passed(link: &Link, bytes: &[u8], packet: &Packet) -> Result<(), String> 
     let body = &bytes[link.header_size(packet.kind)..];
     fields(link, bytes, packet)?;
     part(link, bytes, body, packet)?;
-    table(link, bytes, body, packet)?;
+    table(body, packet)?;
     rewrite(link, bytes)
 }
 
@@ -75,32 +75,20 @@ fn fields(link: &Link, bytes: &[u8], packet: &Packet) -> Result<(), String> {
 
 // -- the part of the body that is handed out as bytes -------------------------------------------------------------------
 
-/// What the library hands out as bytes: all of a hello, a table's rows, a filter's string, data.
-fn part_bytes(packet: &Packet, body: &[u8]) -> Vec<u8> {
-    match packet.kind {
-        0 => hello_bytes(packet),
-        4 => body[4..].to_vec(),
-        5 => body.to_vec(),
-        23 => packet.bytes("string").to_vec(),
+/// What follows the fields: a hello's words, a filter's string, data.
+fn part_bytes(packet: &Packet) -> Vec<u8> {
+    match (packet.kind, packet.get("words")) {
+        (0, Some(Value::Words(words))) => words.iter().flat_map(|w| w.to_le_bytes()).collect(),
+        (23, _) => packet.bytes("string").to_vec(),
         _ => packet.data().to_vec(),
     }
-}
-
-fn hello_bytes(packet: &Packet) -> Vec<u8> {
-    let mut bytes = packet.bytes("version").to_vec();
-    if let Some(Value::Words(words)) = packet.get("words") {
-        for word in words {
-            bytes.extend(word.to_le_bytes());
-        }
-    }
-    bytes
 }
 
 /// The part is the body's last bytes, just as many as there are; where there are none it may be empty anywhere in it.
 fn part(link: &Link, bytes: &[u8], body: &[u8], packet: &Packet) -> Result<(), String> {
     let start = library::part_start(link, bytes);
     let end = library::part_end(link, bytes);
-    let expected = part_bytes(packet, body);
+    let expected = part_bytes(packet);
     let Some(found) = body.get(start..end) else {
         return Err(format!("part {start}..{end} isn't in the body"));
     };
@@ -118,23 +106,33 @@ fn part(link: &Link, bytes: &[u8], body: &[u8], packet: &Packet) -> Result<(), S
 
 // -- tables -----------------------------------------------------------------------------------------------------------
 
-/// Column by column the 32 numbers of a table, read by row.
-fn table(link: &Link, bytes: &[u8], body: &[u8], packet: &Packet) -> Result<(), String> {
-    let columns: &[&str] = match packet.kind {
-        4 => &["number", "class", "subclass", "protocol"],
-        5 => &["type", "interval", "interface", "max packet", "max streams"],
-        _ => &[],
+/// Column by column the 32 numbers of a table, read by row: 0 past them, and all 0 where the part isn't as long as the table.
+fn table(body: &[u8], packet: &Packet) -> Result<(), String> {
+    let (start, columns): (usize, &[&str]) = match packet.kind {
+        4 => (4, &["number", "class", "subclass", "protocol"]),
+        5 => (
+            0,
+            &["type", "interval", "interface", "max packet", "max streams"],
+        ),
+        _ => return Ok(()),
     };
-    let part = (
-        library::part_start(link, bytes),
-        library::part_end(link, bytes),
-    );
+    let end = body.len();
+    let mut others = vec![(start, end - 1), (start + 1, end), (end, start)];
+    if start > 0 {
+        others.push((0, end));
+    }
     for (column, name) in columns.iter().enumerate() {
-        for row in 0..32 {
-            let here = cell(packet, body, part, row, column);
+        for row in 0..34 {
+            let here = cell(packet, body, (start, end), row, column);
             let there = column_number(packet, name, row);
             ensure(here == there, || {
                 format!("{name} of row {row} is {here}, not {there}")
+            })?;
+        }
+        for part in others.iter().copied() {
+            let here = cell(packet, body, part, column, column);
+            ensure(here == 0, || {
+                format!("{name} of row {column} in the part {part:?} is {here}, not 0")
             })?;
         }
     }
@@ -161,7 +159,7 @@ fn cell(
 /// The number of a row in a column; 0 in one that isn't on the wire.
 fn column_number(packet: &Packet, name: &str, row: usize) -> u64 {
     match packet.get(name) {
-        Some(Value::Column(numbers)) => numbers[row],
+        Some(Value::Column(numbers)) => numbers.get(row).copied().unwrap_or(0),
         _ => 0,
     }
 }

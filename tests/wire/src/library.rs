@@ -1,4 +1,4 @@
-//! The functions of crates/probe/src/lib.rt behind safe ones. With the feature `self-test` the oracle answers instead.
+//! The functions of crates/test_probe/src/lib.rt behind safe ones. With the feature `self-test` the oracle answers instead.
 
 pub use answers::{
     endpoint_cell, field, interface_cell, number, part_end, part_start, rewrite, row, write_bulk,
@@ -11,9 +11,15 @@ mod answers {
 
     // The archive takes a slice as a pointer, then its length.
     extern "C" {
-        fn probe_number(sender: u8, guest: u64, host: u64, bytes: *const u8, size: usize) -> u8;
+        fn test_probe_number(
+            sender: u8,
+            guest: u64,
+            host: u64,
+            bytes: *const u8,
+            size: usize,
+        ) -> u8;
 
-        fn probe_field(
+        fn test_probe_field(
             sender: u8,
             guest: u64,
             host: u64,
@@ -22,7 +28,7 @@ mod answers {
             i: usize,
         ) -> u64;
 
-        fn probe_part(
+        fn test_probe_part(
             sender: u8,
             guest: u64,
             host: u64,
@@ -31,9 +37,9 @@ mod answers {
             end: u8,
         ) -> usize;
 
-        fn probe_row(byte: u8) -> u8;
+        fn test_probe_row(byte: u8) -> u8;
 
-        fn probe_rewrite(
+        fn test_probe_rewrite(
             sender: u8,
             guest: u64,
             host: u64,
@@ -43,7 +49,7 @@ mod answers {
             out_size: usize,
         ) -> usize;
 
-        fn probe_write_bulk(
+        fn test_probe_write_bulk(
             sender: u8,
             guest: u64,
             host: u64,
@@ -56,7 +62,7 @@ mod answers {
             out_size: usize,
         ) -> u8;
 
-        fn probe_interface(
+        fn test_probe_interface(
             body: *const u8,
             size: usize,
             start: usize,
@@ -65,7 +71,7 @@ mod answers {
             column: usize,
         ) -> u64;
 
-        fn probe_endpoint(
+        fn test_probe_endpoint(
             body: *const u8,
             size: usize,
             start: usize,
@@ -98,28 +104,28 @@ mod answers {
     pub fn number(link: &Link, bytes: &[u8]) -> u8 {
         let (guest, host) = (hello(link.guest), hello(link.host));
         // SAFETY: pointer and length are a slice that lives over the call and is only read.
-        unsafe { probe_number(sender(link), guest, host, bytes.as_ptr(), bytes.len()) }
+        unsafe { test_probe_number(sender(link), guest, host, bytes.as_ptr(), bytes.len()) }
     }
 
     /// Field i of a packet that passes, in body order; 0 where it isn't there.
     pub fn field(link: &Link, bytes: &[u8], i: usize) -> u64 {
         let (guest, host) = (hello(link.guest), hello(link.host));
         // SAFETY: as in `number`.
-        unsafe { probe_field(sender(link), guest, host, bytes.as_ptr(), bytes.len(), i) }
+        unsafe { test_probe_field(sender(link), guest, host, bytes.as_ptr(), bytes.len(), i) }
     }
 
     fn part(link: &Link, bytes: &[u8], end: u8) -> usize {
         let (guest, host) = (hello(link.guest), hello(link.host));
         // SAFETY: as in `number`.
-        unsafe { probe_part(sender(link), guest, host, bytes.as_ptr(), bytes.len(), end) }
+        unsafe { test_probe_part(sender(link), guest, host, bytes.as_ptr(), bytes.len(), end) }
     }
 
-    /// Where the packet's part starts, counted from the body's first byte; 0 where the packet doesn't pass.
+    /// Where what follows the packet's fields starts, counted from the body's first byte; 0 where the packet doesn't pass.
     pub fn part_start(link: &Link, bytes: &[u8]) -> usize {
         part(link, bytes, 0)
     }
 
-    /// Where the packet's part ends.
+    /// Where it ends.
     pub fn part_end(link: &Link, bytes: &[u8]) -> usize {
         part(link, bytes, 1)
     }
@@ -127,7 +133,7 @@ mod answers {
     /// The row of an endpoint's byte; 255 where it is no address.
     pub fn row(byte: u8) -> u8 {
         // SAFETY: plain numbers.
-        unsafe { probe_row(byte) }
+        unsafe { test_probe_row(byte) }
     }
 
     /// Reads a packet and writes it again: the bytes put out, 0 where it doesn't pass or `out` is too short.
@@ -137,7 +143,7 @@ mod answers {
         let (output, output_size) = (out.as_mut_ptr(), out.len());
         // SAFETY: two slices that live over the call and don't overlap; only the second is written, within its length.
         unsafe {
-            probe_rewrite(
+            test_probe_rewrite(
                 sender(link),
                 guest,
                 host,
@@ -156,7 +162,7 @@ mod answers {
         let (output, output_size) = (out.as_mut_ptr(), out.len());
         // SAFETY: as in `rewrite`.
         unsafe {
-            probe_write_bulk(
+            test_probe_write_bulk(
                 sender(link),
                 guest,
                 host,
@@ -174,7 +180,7 @@ mod answers {
     /// A column of a row of the interface table whose rows are that part of the body.
     pub fn interface_cell(body: &[u8], start: usize, end: usize, row: usize, column: usize) -> u64 {
         // SAFETY: as in `number`.
-        unsafe { probe_interface(body.as_ptr(), body.len(), start, end, row, column) }
+        unsafe { test_probe_interface(body.as_ptr(), body.len(), start, end, row, column) }
     }
 
     /// A column of a row of the endpoint table whose rows are that part of the body, with max packet and max streams.
@@ -189,7 +195,7 @@ mod answers {
         let (packets, streams) = (u8::from(packets), u8::from(streams));
         let (bytes, size) = (body.as_ptr(), body.len());
         // SAFETY: as in `number`.
-        unsafe { probe_endpoint(bytes, size, start, end, packets, streams, row as u8, column) }
+        unsafe { test_probe_endpoint(bytes, size, start, end, packets, streams, row as u8, column) }
     }
 }
 
@@ -219,7 +225,7 @@ mod answers {
     pub fn part_start(link: &Link, bytes: &[u8]) -> usize {
         match oracle::read(link, bytes) {
             Ok(packet) => match packet.kind {
-                4 => 4,
+                0 => 64,
                 100 | 104 => 10,
                 101 if packet.number("length high").is_some() => 10,
                 101 => 8,
@@ -231,7 +237,7 @@ mod answers {
     }
 
     pub fn part_end(link: &Link, bytes: &[u8]) -> usize {
-        let has_part = |packet: &Packet| matches!(packet.kind, 0 | 4 | 5 | 23 | 100..=104);
+        let has_part = |packet: &Packet| matches!(packet.kind, 0 | 23 | 100..=104);
         match oracle::read(link, bytes) {
             Ok(packet) if has_part(&packet) => bytes.len() - link.header_size(packet.kind),
             _ => 0,
@@ -261,7 +267,10 @@ mod answers {
     }
 
     pub fn interface_cell(body: &[u8], start: usize, end: usize, row: usize, column: usize) -> u64 {
-        u64::from(body[start..end][32 * column + row])
+        match body.get(start..end) {
+            Some(rows) if rows.len() == 128 && row < 32 => u64::from(rows[32 * column + row]),
+            _ => 0,
+        }
     }
 
     pub fn endpoint_cell(
@@ -272,7 +281,11 @@ mod answers {
         row: usize,
         column: usize,
     ) -> u64 {
-        let rows = &body[start..end];
+        let size = 96 + if packets { 64 } else { 0 } + if streams { 128 } else { 0 };
+        let rows = match body.get(start..end) {
+            Some(rows) if rows.len() == size && row < 32 => rows,
+            _ => return 0,
+        };
         match column {
             0..=2 => u64::from(rows[32 * column + row]),
             3 if packets => oracle::read_number(&rows[96 + 2 * row..96 + 2 * row + 2]),

@@ -1,4 +1,5 @@
-//! Tests of the wire library: captured packets, marked examples, generated and damaged packets, packets to be written.
+//! Tests of the wire library: captured packets, marked examples, generated and damaged packets, ignored bits and words,
+//! packets to be written.
 //!
 //! `wire [DIRECTORY]`: the directory holds captures with their sidecars; the fixtures beside the manifest if none is given.
 //! The environment variable SEED repeats a run of the generated packets.
@@ -8,6 +9,7 @@ mod compare;
 mod differential;
 mod examples;
 mod generate;
+mod ignored;
 mod json;
 mod library;
 mod oracle;
@@ -25,6 +27,7 @@ fn main() -> ExitCode {
     let captured = capture::run(&directory(), &mut report);
     examples::run(&mut report);
     differential::run(seed, &captured, &mut report);
+    ignored::run(seed, &mut report);
     writer::run(seed, &mut report);
     report.finish()
 }

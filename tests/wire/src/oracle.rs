@@ -16,6 +16,9 @@ pub const IDS_OF_64_BITS: u32 = 1 << 5;
 pub const BULK_LENGTH_OF_32_BITS: u32 = 1 << 6;
 pub const BULK_RECEIVING: u32 = 1 << 7;
 
+/// "Other bits and words are ignored."
+const IGNORED_BITS: u32 = 0xffff_ff00;
+
 /// Who sends a packet, and the first word of each hello that has passed before it.
 #[derive(Clone, Copy, Debug, PartialEq)]
 pub struct Link {
@@ -28,7 +31,7 @@ impl Link {
     /// "Shared set: bits set in both hellos' first capability word." Nothing is shared before both have passed.
     pub fn shared(&self) -> u32 {
         match (self.guest, self.host) {
-            (Some(guest), Some(host)) => guest & host,
+            (Some(guest), Some(host)) => guest & host & !IGNORED_BITS,
             _ => 0,
         }
     }

@@ -2,7 +2,7 @@
 -- Assumes nothing.
 use borrow.Author.Needs.{needs}
 use native.Mathlib.Omega.{arith}
-use Rattle.capture.proofs.Laws.{Making, making-starts, making-room, making-goes-on, making-ends}
+use Rattle.capture.proofs.Spelling.{Making, making-starts, making-room, making-goes-on, making-ends}
 use Rattle.capture.proofs.add_decimal.Statement.{statement}
 use Rattle.capture.proofs.add_decimal.Tie as tie
 

@@ -5,7 +5,7 @@ use native.Mathlib.Omega.{arith}
 use lib.ListN.{length}
 use borrow.Author.Needs.{needs}
 use Rattle.capture.specs.Lines.{largest}
-use Rattle.capture.proofs.Laws.{adds-then}
+use Rattle.capture.proofs.Spelling.{adds-then}
 use Rattle.capture.proofs.add_field.Statement.{statement}
 use Rattle.capture.proofs.add_field.Tie as tie
 

@@ -6,7 +6,7 @@ use native.Mathlib.Omega.{arith}
 use lib.ListN.{length}
 use borrow.Author.Needs.{needs}
 use Rattle.capture.specs.Lines.{largest}
-use Rattle.capture.proofs.Laws.{sets-cut}
+use Rattle.capture.proofs.Spelling.{sets-cut}
 use Rattle.capture.proofs.add_text.Statement.{statement}
 use Rattle.capture.proofs.add_text.Tie as tie
 

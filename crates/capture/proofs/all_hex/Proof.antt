@@ -6,7 +6,7 @@ use native.Mathlib.Omega.{arith}
 use borrow.Author.Tests.{not-true, not-false}
 use lib.ListN.{length, drop}
 use Rattle.capture.specs.Lines.{allHex}
-use Rattle.capture.proofs.Laws.{hex-ends, hex-goes-on, no-hex}
+use Rattle.capture.proofs.Spelling.{hex-ends, hex-goes-on, no-hex}
 use Rattle.capture.proofs.all_hex.Statement.{statement}
 use Rattle.capture.proofs.all_hex.Tie as tie
 

@@ -2,7 +2,7 @@
 -- Assumes nothing.
 use mathlib.Core.Path.{sym, _∙_}
 use borrow.Author.Needs.{needs}
-use Rattle.capture.proofs.Laws.{decodes-guest, decodes-host, decodes-other}
+use Rattle.capture.proofs.Spelling.{decodes-guest, decodes-host, decodes-other}
 use Rattle.capture.proofs.decode_line.Statement.{statement}
 use Rattle.capture.proofs.decode_line.Tie as tie
 

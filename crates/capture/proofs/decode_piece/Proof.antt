@@ -2,7 +2,7 @@
 -- Assumes nothing.
 use mathlib.Core.Path.{sym, _∙_}
 use borrow.Author.Needs.{needs}
-use Rattle.capture.proofs.Laws.{decodes-piece, decodes-nothing}
+use Rattle.capture.proofs.Spelling.{decodes-piece, decodes-nothing}
 use Rattle.capture.proofs.decode_piece.Statement.{statement}
 use Rattle.capture.proofs.decode_piece.Tie as tie
 

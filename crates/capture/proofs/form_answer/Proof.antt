@@ -5,8 +5,8 @@ use native.Mathlib.Omega.{arith}
 use lib.ListN.{length}
 use borrow.Author.Needs.{needs}
 use Rattle.capture.specs.Lines.{largest, answerLine}
-use Rattle.capture.specs.Laws.{answer-short}
-use Rattle.capture.proofs.Laws.{adds-then, forms-all}
+use Rattle.capture.proofs.LineLaws.{answer-short}
+use Rattle.capture.proofs.Spelling.{adds-then, forms-all}
 use Rattle.capture.proofs.form_answer.Statement.{statement}
 use Rattle.capture.proofs.form_answer.Tie as tie
 

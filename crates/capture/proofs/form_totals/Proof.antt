@@ -8,8 +8,8 @@ use lib.ListN.{length}
 use mir.Val.{boolByte}
 use borrow.Author.Needs.{needs}
 use Rattle.capture.specs.Lines.{largest, totalsLine}
-use Rattle.capture.specs.Laws.{totals-short}
-use Rattle.capture.proofs.Laws.{adds-then, forms-all}
+use Rattle.capture.proofs.LineLaws.{totals-short}
+use Rattle.capture.proofs.Spelling.{adds-then, forms-all}
 use Rattle.capture.proofs.form_totals.Statement.{statement}
 use Rattle.capture.proofs.form_totals.Tie as tie
 

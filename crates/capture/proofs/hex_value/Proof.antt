@@ -3,7 +3,7 @@
 use mathlib.Core.Path.{sym, _∙_}
 use native.Mathlib.Omega.{arith}
 use borrow.Author.Needs.{needs}
-use Rattle.capture.proofs.Laws.{between-true}
+use Rattle.capture.proofs.Spelling.{between-true}
 use Rattle.capture.proofs.hex_value.Statement.{statement}
 use Rattle.capture.proofs.hex_value.Tie as tie
 

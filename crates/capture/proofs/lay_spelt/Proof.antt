@@ -6,7 +6,7 @@ use native.Mathlib.Omega.{arith}
 use lib.ListN.{length, drop, set, length-set}
 use lib.Seq.{sets}
 use Rattle.capture.specs.Lines.{spelt}
-use Rattle.capture.proofs.Laws.{spelt-ends, spelt-step}
+use Rattle.capture.proofs.Spelling.{spelt-ends, spelt-step}
 use Rattle.capture.proofs.lay_spelt.Statement.{statement}
 use Rattle.capture.proofs.lay_spelt.Tie as tie
 

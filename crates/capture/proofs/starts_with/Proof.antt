@@ -5,7 +5,7 @@ use Prim.Native.Nat.{_-_, _≤_}
 use native.Mathlib.Omega.{arith}
 use lib.ListN.{length, drop}
 use Rattle.capture.specs.Lines.{startsWith}
-use Rattle.capture.proofs.Laws.{prefix-ends, prefix-goes-on, prefix-differs, prefix-short}
+use Rattle.capture.proofs.Spelling.{prefix-ends, prefix-goes-on, prefix-differs, prefix-short}
 use Rattle.capture.proofs.starts_with.Statement.{statement}
 use Rattle.capture.proofs.starts_with.Tie as tie
 

@@ -3,9 +3,9 @@
 use mathlib.Core.Path.{refl, _∙_}
 use borrow.Author.Needs.{needs}
 use Rattle.checks.specs.declared.Change.the-variants.{Endpoints, Acknowledge}
-use Rattle.checks.specs.declared.Ruling.the-variants.{Refused, Passed}
+use Rattle.checks.specs.declared.Ruling.the-variants.{Denied, Granted}
 use Rattle.checks.specs.Ruled.{ruled}
-use Rattle.checks.proofs.Laws.{held, missed, by-case}
+use Rattle.checks.proofs.Rulings.{held, missed, by-case}
 use Rattle.checks.proofs.rule.Statement.{statement}
 use Rattle.checks.proofs.rule.Tie as tie
 
@@ -30,14 +30,14 @@ enum-told-3 c = search needs
 enum-told-4 : tie.Need-enum-told-4
 enum-told-4 c = search needs
 
-with-device-requires : tie.Need-with-device-requires
-with-device-requires c κs = search needs
+needs-device-requires : tie.Need-needs-device-requires
+needs-device-requires c κs = search needs
 
 enum-told-5 : tie.Need-enum-told-5
 enum-told-5 c = search needs
 
-with-device-requires-2 : tie.Need-with-device-requires-2
-with-device-requires-2 c κs = search needs
+needs-device-requires-2 : tie.Need-needs-device-requires-2
+needs-device-requires-2 c κs = search needs
 
 enum-told-6 : tie.Need-enum-told-6
 enum-told-6 c = search needs
@@ -45,8 +45,8 @@ enum-told-6 c = search needs
 enum-told-7 : tie.Need-enum-told-7
 enum-told-7 c = search needs
 
-with-device-requires-3 : tie.Need-with-device-requires-3
-with-device-requires-3 c κs = search needs
+needs-device-requires-3 : tie.Need-needs-device-requires-3
+needs-device-requires-3 c κs = search needs
 
 enum-told-8 : tie.Need-enum-told-8
 enum-told-8 c = search needs
@@ -90,46 +90,46 @@ unfolding ruled
 returns-4 c =
     let a = c .before .before .before .args in
     λ d t p s l.
-    by-case (a .h) d t (a .c) _ _ (c .before .enum-told3 .given .1) (held (a .h .owed) (Refused 27) (Passed Endpoints) (c .if1 .taken))
+    by-case (a .h) d t (a .c) _ _ (c .before .enum-told3 .given .1) (held (a .h .owed) (Denied 27) (Granted Endpoints) (c .if1 .taken))
 
 returns-5 : tie.Need-returns-5
 unfolding ruled
 returns-5 c =
     let a = c .before .before .before .args in
     λ d t p s l.
-    by-case (a .h) d t (a .c) _ _ (c .before .enum-told3 .given .1) (missed (a .h .owed) (Refused 27) (Passed Endpoints) (c .if1 .left))
+    by-case (a .h) d t (a .c) _ _ (c .before .enum-told3 .given .1) (missed (a .h .owed) (Denied 27) (Granted Endpoints) (c .if1 .left))
 
 returns-6 : tie.Need-returns-6
 unfolding ruled
 returns-6 c =
     let a = c .before .before .before .args in
-    λ d t p s l. by-case (a .h) d t (a .c) _ _ (c .before .enum-told4 .given .1) (c .with-device .ensures)
+    λ d t p s l. by-case (a .h) d t (a .c) _ _ (c .before .enum-told4 .given .1) (c .needs-device .ensures)
 
 returns-7 : tie.Need-returns-7
 unfolding ruled
 returns-7 c =
     let a = c .before .before .before .args in
-    λ d t p s l. by-case (a .h) d t (a .c) _ _ (c .before .enum-told5 .given .1) (c .with-device2 .ensures)
+    λ d t p s l. by-case (a .h) d t (a .c) _ _ (c .before .enum-told5 .given .1) (c .needs-device2 .ensures)
 
 returns-8 : tie.Need-returns-8
 unfolding ruled
 returns-8 c =
     let a = c .before .before .before .args in
     λ d t p s l.
-    by-case (a .h) d t (a .c) _ _ (c .before .enum-told6 .given .1) (held (a .h .owed) (Passed Acknowledge) (Refused 26) (c .if2 .taken))
+    by-case (a .h) d t (a .c) _ _ (c .before .enum-told6 .given .1) (held (a .h .owed) (Granted Acknowledge) (Denied 26) (c .if2 .taken))
 
 returns-9 : tie.Need-returns-9
 unfolding ruled
 returns-9 c =
     let a = c .before .before .before .args in
     λ d t p s l.
-    by-case (a .h) d t (a .c) _ _ (c .before .enum-told6 .given .1) (missed (a .h .owed) (Passed Acknowledge) (Refused 26) (c .if2 .left))
+    by-case (a .h) d t (a .c) _ _ (c .before .enum-told6 .given .1) (missed (a .h .owed) (Granted Acknowledge) (Denied 26) (c .if2 .left))
 
 returns-10 : tie.Need-returns-10
 unfolding ruled
 returns-10 c =
     let a = c .before .before .before .args in
-    λ d t p s l. by-case (a .h) d t (a .c) _ _ (c .before .enum-told7 .given .1) (c .with-device3 .ensures)
+    λ d t p s l. by-case (a .h) d t (a .c) _ _ (c .before .enum-told7 .given .1) (c .needs-device3 .ensures)
 
 returns-11 : tie.Need-returns-11
 unfolding ruled
@@ -140,39 +140,39 @@ unfolding ruled
 returns-12 c =
     let a = c .before .before .before .before .before .args in
     λ d t p s l.
-    by-case (a .h) d t (a .c) _ _ (c .before .before .before .c2 .given .1) (c .rule-request .ensures d t p l ∙ held (a .h .present) _ (Refused 25) (c .before .if3 .taken))
+    by-case (a .h) d t (a .c) _ _ (c .before .before .before .c2 .given .1) (c .rule-request .ensures d t p l ∙ held (a .h .present) _ (Denied 25) (c .before .if3 .taken))
 
 returns-13 : tie.Need-returns-13
 unfolding ruled
 returns-13 c =
     let a = c .before .before .before .before .args in
-    λ d t p s l. by-case (a .h) d t (a .c) _ _ (c .before .before .c2 .given .1) (missed (a .h .present) _ (Refused 25) (c .if3 .left))
+    λ d t p s l. by-case (a .h) d t (a .c) _ _ (c .before .before .c2 .given .1) (missed (a .h .present) _ (Denied 25) (c .if3 .left))
 
 returns-14 : tie.Need-returns-14
 unfolding ruled
 returns-14 c =
     let a = c .before .before .before .before .before .args in
     λ d t p s l.
-    by-case (a .h) d t (a .c) _ _ (c .before .before .before .c3 .given .1) (c .rule-reply .ensures t l ∙ held (a .h .present) _ (Refused 25) (c .before .if4 .taken))
+    by-case (a .h) d t (a .c) _ _ (c .before .before .before .c3 .given .1) (c .rule-reply .ensures t l ∙ held (a .h .present) _ (Denied 25) (c .before .if4 .taken))
 
 returns-15 : tie.Need-returns-15
 unfolding ruled
 returns-15 c =
     let a = c .before .before .before .before .args in
-    λ d t p s l. by-case (a .h) d t (a .c) _ _ (c .before .before .c3 .given .1) (missed (a .h .present) _ (Refused 25) (c .if4 .left))
+    λ d t p s l. by-case (a .h) d t (a .c) _ _ (c .before .before .c3 .given .1) (missed (a .h .present) _ (Denied 25) (c .if4 .left))
 
 returns-16 : tie.Need-returns-16
 unfolding ruled
 returns-16 c =
     let a = c .before .before .before .before .before .args in
     λ d t p s l.
-    by-case (a .h) d t (a .c) _ _ (c .before .before .before .c4 .given .1) (c .rule-stream .ensures d t p s (l .used) (l .live) (l .kinds) ∙ held (a .h .present) _ (Refused 25) (c .before .if5 .taken))
+    by-case (a .h) d t (a .c) _ _ (c .before .before .before .c4 .given .1) (c .rule-stream .ensures d t p s (l .used) (l .live) (l .kinds) ∙ held (a .h .present) _ (Denied 25) (c .before .if5 .taken))
 
 returns-17 : tie.Need-returns-17
 unfolding ruled
 returns-17 c =
     let a = c .before .before .before .before .args in
-    λ d t p s l. by-case (a .h) d t (a .c) _ _ (c .before .before .c4 .given .1) (missed (a .h .present) _ (Refused 25) (c .if5 .left))
+    λ d t p s l. by-case (a .h) d t (a .c) _ _ (c .before .before .c4 .given .1) (missed (a .h .present) _ (Denied 25) (c .if5 .left))
 
 pub rule-spec : {M : Type 1} → statement M
 rule-spec =
@@ -185,12 +185,12 @@ rule-spec =
     rule-interfaces-requires
     enum-told-3
     enum-told-4
-    with-device-requires
+    needs-device-requires
     enum-told-5
-    with-device-requires-2
+    needs-device-requires-2
     enum-told-6
     enum-told-7
-    with-device-requires-3
+    needs-device-requires-3
     enum-told-8
     enum-known-c-2
     rule-request-requires

@@ -2,7 +2,7 @@
 -- Assumes nothing.
 use mathlib.Core.Path.{_∙_}
 use borrow.Author.Needs.{needs}
-use Rattle.checks.proofs.Laws.{reply-pending, reply-other, reply-nowhere}
+use Rattle.checks.proofs.Rulings.{reply-pending, reply-other, reply-nowhere}
 use Rattle.checks.proofs.rule_reply.Statement.{statement}
 use Rattle.checks.proofs.rule_reply.Tie as tie
 

@@ -7,8 +7,8 @@ use denote.Ref.{now}
 use borrow.Author.Needs.{needs}
 use Rattle.requests.specs.declared.Requests.{Requests}
 use Rattle.requests.specs.Requests.{isSome, Settling, lowest}
-use Rattle.checks.specs.declared.Ruling.the-variants.{Passed}
-use Rattle.checks.proofs.Laws.{held, missed, none-waits, no-transfer, asked-mistyped, asked-settling, asked-twice, asked-place}
+use Rattle.checks.specs.declared.Ruling.the-variants.{Granted}
+use Rattle.checks.proofs.Rulings.{held, missed, none-waits, no-transfer, asked-mistyped, asked-settling, asked-twice, asked-place}
 use Rattle.checks.proofs.rule_request.Statement.{statement}
 use Rattle.checks.proofs.rule_request.Tie as tie
 
@@ -70,7 +70,7 @@ returns-4 c =
     let m = c .before .before .before .before .before .before .before in
     let a = m .before .before .before .before .args in
     λ d t p l.
-    ap Passed (held (a .starts) _ _ (c .if4 .taken))
+    ap Granted (held (a .starts) _ _ (c .if4 .taken))
     ∙ asked-place d t (a .q) (a .typed) (a .starts) (a .transfer)
     _ (m .before .before .before .is-mistyped .ensures d p) (m .before .before .if1 .left) (calm (m .before) t (l .used) (l .live) (l .kinds))
     _ (m .find-id .ensures t (l .used) (l .live) (l .ids)) (c .before .before .before .before .before .enum-told2 .given .1)
@@ -81,7 +81,7 @@ returns-5 c =
     let m = c .before .before .before .before .before .before .before in
     let a = m .before .before .before .before .args in
     λ d t p l.
-    ap Passed (missed (a .starts) _ _ (c .if4 .left))
+    ap Granted (missed (a .starts) _ _ (c .if4 .left))
     ∙ asked-place d t (a .q) (a .typed) (a .starts) (a .transfer)
     _ (m .before .before .before .is-mistyped .ensures d p) (m .before .before .if1 .left) (calm (m .before) t (l .used) (l .live) (l .kinds))
     _ (m .find-id .ensures t (l .used) (l .live) (l .ids)) (c .before .before .before .before .before .enum-told2 .given .1)

@@ -7,7 +7,7 @@ use denote.Ref.{now}
 use borrow.Author.Needs.{needs}
 use Rattle.requests.specs.declared.Requests.{Requests}
 use Rattle.requests.specs.Requests.{isSome, Settling, lowest}
-use Rattle.checks.proofs.Laws.{held, missed, none-waits, no-transfer, streamed-mistyped, streamed-settling, streamed-by}
+use Rattle.checks.proofs.Rulings.{held, missed, none-waits, no-transfer, streamed-mistyped, streamed-settling, streamed-by}
 use Rattle.checks.proofs.rule_stream.Statement.{statement}
 use Rattle.checks.proofs.rule_stream.Tie as tie
 

@@ -3,7 +3,7 @@
 use mathlib.Core.Path.{_∙_}
 use borrow.Author.Tests.{lt-ltb, le-ltb}
 use borrow.Author.Needs.{needs}
-use Rattle.checks.proofs.Laws.{held, missed, target-other, target-same}
+use Rattle.checks.proofs.Rulings.{held, missed, target-other, target-same}
 use Rattle.checks.proofs.settle_reply.Statement.{statement}
 use Rattle.checks.proofs.settle_reply.Tie as tie
 

@@ -1,10 +1,13 @@
 -- `decoder::read_body` meets its contract: each arm's packet is that of its kind's law (`EachKind`), by what the readers ensure.
 -- Assumes nothing.
 use mathlib.Core.Path.{refl}
-use borrow.Author.Needs.{needs}
 use Rattle.decoder.proofs.EachKind.{reads-by, last, hello, connect, disconnect, reset, interface-table, endpoint-table, set-configuration, get-configuration, configuration-status, set-alt, get-alt, alt-status, start-iso, stop-iso, iso-status, start-interrupt, stop-interrupt, interrupt-status, alloc-streams, free-streams, streams-status, cancel, filter-reject, filter, disconnect-ack, start-bulk-receiving, stop-bulk-receiving, bulk-receiving-status}
+use borrow.Author.Needs.{needs}
 use Rattle.decoder.proofs.read_body.Statement.{statement}
 use Rattle.decoder.proofs.read_body.Tie as tie
+
+part-at-requires : tie.Need-part-at-requires
+part-at-requires c κs = search needs
 
 after-requires : tie.Need-after-requires
 after-requires c κs = search needs
@@ -30,17 +33,17 @@ get16-requires-2 c κs = search needs
 has-bit-requires : tie.Need-has-bit-requires
 has-bit-requires c κs = search needs
 
-optional-at-requires : tie.Need-optional-at-requires
-optional-at-requires c κs = search needs
+get16-requires-3 : tie.Need-get16-requires-3
+get16-requires-3 c κs = search needs
+
+given16-requires : tie.Need-given16-requires
+given16-requires c κs = search needs
 
 get32-requires : tie.Need-get32-requires
 get32-requires c κs = search needs
 
-after-requires-2 : tie.Need-after-requires-2
-after-requires-2 c κs = search needs
-
-after-requires-3 : tie.Need-after-requires-3
-after-requires-3 c κs = search needs
+part-at-requires-2 : tie.Need-part-at-requires-2
+part-at-requires-2 c κs = search needs
 
 has-bit-requires-2 : tie.Need-has-bit-requires-2
 has-bit-requires-2 c κs = search needs
@@ -48,8 +51,11 @@ has-bit-requires-2 c κs = search needs
 has-bit-requires-3 : tie.Need-has-bit-requires-3
 has-bit-requires-3 c κs = search needs
 
-has-bit-requires-4 : tie.Need-has-bit-requires-4
-has-bit-requires-4 c κs = search needs
+fields-size-requires : tie.Need-fields-size-requires
+fields-size-requires c κs = search needs
+
+part-at-requires-3 : tie.Need-part-at-requires-3
+part-at-requires-3 c κs = search needs
 
 get8-requires-5 : tie.Need-get8-requires-5
 get8-requires-5 c κs = search needs
@@ -126,8 +132,8 @@ get32-requires-6 c κs = search needs
 get8-requires-24 : tie.Need-get8-requires-24
 get8-requires-24 c κs = search needs
 
-after-requires-4 : tie.Need-after-requires-4
-after-requires-4 c κs = search needs
+after-requires-2 : tie.Need-after-requires-2
+after-requires-2 c κs = search needs
 
 get32-requires-7 : tie.Need-get32-requires-7
 get32-requires-7 c κs = search needs
@@ -157,10 +163,10 @@ get8-requires-29 : tie.Need-get8-requires-29
 get8-requires-29 c κs = search needs
 
 returns : tie.Need-returns
-returns c = reads-by (hello _ _) (c .before .before .before .pre) (c .before .match .keys1) (rw (c .after .ensures))
+returns c = reads-by (hello _ _) (c .before .before .before .before .pre) (c .before .before .match .keys1) (rw (c .after .ensures, c .before .part-at .ensures))
 
 returns-2 : tie.Need-returns-2
-returns-2 c = reads-by (connect _ _) (c .before .before .before .before .before .before .before .before .before .before .pre) (c .before .before .before .before .before .before .before .before .match .keys2) (rw (c .optional-at .ensures, c .before .has-bit .ensures, c .before .before .get162 .ensures, c .before .before .before .get16 .ensures, c .before .before .before .before .get84 .ensures, c .before .before .before .before .before .get83 .ensures, c .before .before .before .before .before .before .get82 .ensures, c .before .before .before .before .before .before .before .get8 .ensures))
+returns-2 c = reads-by (connect _ _) (c .before .before .before .before .before .before .before .before .before .before .before .pre) (c .before .before .before .before .before .before .before .before .before .match .keys2) (rw (c .given16 .ensures, c .before .get163 .ensures, c .before .before .has-bit .ensures, c .before .before .before .get162 .ensures, c .before .before .before .before .get16 .ensures, c .before .before .before .before .before .get84 .ensures, c .before .before .before .before .before .before .get83 .ensures, c .before .before .before .before .before .before .before .get82 .ensures, c .before .before .before .before .before .before .before .before .get8 .ensures))
 
 returns-3 : tie.Need-returns-3
 returns-3 c = reads-by (disconnect _ _) (c .before .before .pre) (c .match .keys3) refl
@@ -169,10 +175,10 @@ returns-4 : tie.Need-returns-4
 returns-4 c = reads-by (reset _ _) (c .before .before .pre) (c .match .keys4) refl
 
 returns-5 : tie.Need-returns-5
-returns-5 c = reads-by (interface-table _ _) (c .before .before .before .before .pre) (c .before .before .match .keys5) (rw (c .after2 .ensures, c .before .get32 .ensures))
+returns-5 c = reads-by (interface-table _ _) (c .before .before .before .before .pre) (c .before .before .match .keys5) (rw (c .part-at2 .ensures, c .before .get32 .ensures))
 
 returns-6 : tie.Need-returns-6
-returns-6 c = reads-by (endpoint-table _ _) (c .before .before .before .before .before .before .pre) (c .before .before .before .before .match .keys6) (rw (c .has-bit4 .ensures, c .before .has-bit3 .ensures, c .before .before .has-bit2 .ensures, c .before .before .before .after3 .ensures))
+returns-6 c = reads-by (endpoint-table _ _) (c .before .before .before .before .before .before .pre) (c .before .before .before .before .match .keys6) (rw (c .part-at3 .ensures, c .before .fields-size .ensures, c .before .before .has-bit3 .ensures, c .before .before .before .has-bit2 .ensures))
 
 returns-7 : tie.Need-returns-7
 returns-7 c = reads-by (set-configuration _ _) (c .before .before .before .pre) (c .before .match .keys7) (rw (c .get85 .ensures))
@@ -226,7 +232,7 @@ returns-23 : tie.Need-returns-23
 returns-23 c = reads-by (filter-reject _ _) (c .before .before .pre) (c .match .keys23) refl
 
 returns-24 : tie.Need-returns-24
-returns-24 c = reads-by (filter _ _) (c .before .before .before .pre) (c .before .match .keys24) (rw (c .after4 .ensures))
+returns-24 c = reads-by (filter _ _) (c .before .before .before .pre) (c .before .match .keys24) (rw (c .after2 .ensures))
 
 returns-25 : tie.Need-returns-25
 returns-25 c = reads-by (disconnect-ack _ _) (c .before .before .pre) (c .match .keys25) refl
@@ -244,6 +250,7 @@ pub read-body-spec : {M : Type 1} → statement M
 read-body-spec =
     tie.close
     (tie.spec
+    part-at-requires
     after-requires
     get8-requires
     get8-requires-2
@@ -252,13 +259,14 @@ read-body-spec =
     get16-requires
     get16-requires-2
     has-bit-requires
-    optional-at-requires
+    get16-requires-3
+    given16-requires
     get32-requires
-    after-requires-2
-    after-requires-3
+    part-at-requires-2
     has-bit-requires-2
     has-bit-requires-3
-    has-bit-requires-4
+    fields-size-requires
+    part-at-requires-3
     get8-requires-5
     get8-requires-6
     get8-requires-7
@@ -284,7 +292,7 @@ read-body-spec =
     get32-requires-5
     get32-requires-6
     get8-requires-24
-    after-requires-4
+    after-requires-2
     get32-requires-7
     get32-requires-8
     get8-requires-25

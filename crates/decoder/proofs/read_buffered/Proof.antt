@@ -11,14 +11,14 @@ use Rattle.decoder.proofs.WrongSize.{lacks}
 use Rattle.decoder.proofs.read_buffered.Statement.{statement}
 use Rattle.decoder.proofs.read_buffered.Tie as tie
 
-misfit-requires : tie.Need-misfit-requires
-misfit-requires c κs = search needs
+size-number-requires : tie.Need-size-number-requires
+size-number-requires c κs = search needs
 
 returns : tie.Need-returns
 unfolding kinds
 returns c =
     let a = c .before .before .before .args in
-    let m = c .misfit .ensures in
+    let m = c .size-number .ensures in
     size-refused (a .l) (a .h) (m .0) (lacks (a .l) 32 (a .h .id) (now (a .body)) (lit< tt) (m .1) (c .before .if1 .taken))
 
 get32-requires : tie.Need-get32-requires
@@ -57,13 +57,13 @@ returns-2 c =
       g .before .before .before .get32 .ensures,
     )
     (buffered-bulk _ _ (t .if1 .left)))
-    (c .before .buffered-number .ensures _))
+    (c .before .buffered-number .ensures))
 
 pub read-buffered-spec : {M : Type 1} → statement M
 read-buffered-spec =
     tie.close
     (tie.spec
-    misfit-requires
+    size-number-requires
     returns
     get32-requires
     get32-requires-2

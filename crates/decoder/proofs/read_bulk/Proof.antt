@@ -19,13 +19,13 @@ has-bit-requires c κs = search needs
 choose-requires : tie.Need-choose-requires
 choose-requires c κs = search needs
 
-misfit-requires : tie.Need-misfit-requires
-misfit-requires c κs = search needs
+size-number-requires : tie.Need-size-number-requires
+size-number-requires c κs = search needs
 
 returns : tie.Need-returns
 returns c =
     let a = c .before .before .before .before .before .before .args in
-    let m = c .misfit .ensures in
+    let m = c .size-number .ensures in
     let t = rw (c .before .before .choose .ensures, c .before .before .before .has-bit .ensures, c .before .before .before .before .shared-set .ensures, size-bulk) at (c .before .if1 .taken) in
     size-refused (a .l) (a .h) (m .0) (lacks (a .l) 29 (a .h .id) (now (a .body)) (lit< tt) (m .1) t)
 
@@ -80,7 +80,7 @@ read-bulk-spec =
     shared-set-requires
     has-bit-requires
     choose-requires
-    misfit-requires
+    size-number-requires
     returns
     get8-requires
     get8-requires-2

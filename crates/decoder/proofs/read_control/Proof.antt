@@ -11,14 +11,14 @@ use Rattle.decoder.proofs.WrongSize.{lacks}
 use Rattle.decoder.proofs.read_control.Statement.{statement}
 use Rattle.decoder.proofs.read_control.Tie as tie
 
-misfit-requires : tie.Need-misfit-requires
-misfit-requires c κs = search needs
+size-number-requires : tie.Need-size-number-requires
+size-number-requires c κs = search needs
 
 returns : tie.Need-returns
 unfolding kinds
 returns c =
     let a = c .before .before .before .args in
-    let m = c .misfit .ensures in
+    let m = c .size-number .ensures in
     size-refused (a .l) (a .h) (m .0) (lacks (a .l) 28 (a .h .id) (now (a .body)) (lit< tt) (m .1) (c .before .if1 .taken))
 
 get8-requires : tie.Need-get8-requires
@@ -69,13 +69,13 @@ returns-2 c =
       g .before .before .before .get8 .ensures,
     )
     (control _ _ (t .if1 .left)))
-    (c .before .control-number .ensures _ _ _))
+    (c .before .control-number .ensures))
 
 pub read-control-spec : {M : Type 1} → statement M
 read-control-spec =
     tie.close
     (tie.spec
-    misfit-requires
+    size-number-requires
     returns
     get8-requires
     get8-requires-2

@@ -15,25 +15,25 @@ shared-set-requires c κs = search needs
 fields-size-requires : tie.Need-fields-size-requires
 fields-size-requires c κs = search needs
 
-has-part-requires : tie.Need-has-part-requires
-has-part-requires c κs = search needs
+has-rest-requires : tie.Need-has-rest-requires
+has-rest-requires c κs = search needs
 
-misfit-requires : tie.Need-misfit-requires
-misfit-requires c κs = search needs
+size-number-requires : tie.Need-size-number-requires
+size-number-requires c κs = search needs
 
 returns : tie.Need-returns
 returns c =
     let z = c .before .before .before .before .before .before in
     let a = z .args in
-    let t = rw (c .before .before .before .fields-size .ensures, c .before .before .has-part .ensures, c .before .before .before .before .shared-set .ensures) at (c .before .if1 .taken) in
-    let m = c .misfit .ensures in
+    let t = rw (c .before .before .before .fields-size .ensures, c .before .before .has-rest .ensures, c .before .before .before .before .shared-set .ensures) at (c .before .if1 .taken) in
+    let m = c .size-number .ensures in
     size-refused (a .l) (a .h) (m .0) (misfits (a .l) (a .slot) (a .h .id) (now (a .body)) (omega (arith, z .pre)) (m .1) t)
 
 read-body-requires : tie.Need-read-body-requires
 read-body-requires c κs =
     let z = c .before .before .before .before .before in
     let a = z .args in
-    fits (c .before .before .before .shared-set .result) (a .slot) (now (a .body)) (z .pre) (rw (c .before .before .fields-size .ensures, c .before .has-part .ensures) at (c .if1 .left))
+    fits (c .before .before .before .shared-set .result) (a .slot) (now (a .body)) (z .pre) (rw (c .before .before .fields-size .ensures, c .before .has-rest .ensures) at (c .if1 .left))
 
 wire-number-requires : tie.Need-wire-number-requires
 wire-number-requires c κs = search needs
@@ -52,8 +52,8 @@ read-kind-spec =
     (tie.spec
     shared-set-requires
     fields-size-requires
-    has-part-requires
-    misfit-requires
+    has-rest-requires
+    size-number-requires
     returns
     read-body-requires
     wire-number-requires

@@ -6,7 +6,7 @@ use mathlib.Core.Bool.{Bool, not, _&&_}
 use borrow.Author.Needs.{needs}
 use Rattle.device.specs.declared.Scope.the-variants.{OfInterface}
 use Rattle.device.specs.Device.{rowAt, touches, closed}
-use Rattle.device.proofs.Laws.{filled, filled-none, filled-more, filled-all}
+use Rattle.device.proofs.RowFunctions.{filled, filled-none, filled-more, filled-all}
 use Rattle.device.proofs.close_interface.Statement.{statement}
 use Rattle.device.proofs.close_interface.Tie as tie
 

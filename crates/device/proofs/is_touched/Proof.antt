@@ -1,7 +1,7 @@
 -- `device::is_touched` meets its contract, arm by arm; the two rows of control are set apart one by one.
 -- Assumes nothing.
 use borrow.Author.Needs.{needs}
-use Rattle.device.proofs.Laws.{touches-apart}
+use Rattle.device.proofs.RowFunctions.{touches-apart}
 use Rattle.device.proofs.is_touched.Statement.{statement}
 use Rattle.device.proofs.is_touched.Tie as tie
 

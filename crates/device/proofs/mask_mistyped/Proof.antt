@@ -9,8 +9,8 @@ use Rattle.scan.specs.Scan.{anyAt}
 use Rattle.scan.specs.Loop.{any-hit, any-miss, any-none}
 use Rattle.device.specs.declared.Rows.{Rows}
 use Rattle.device.specs.Device.{closedRow, rowsOf, mistyped}
-use Rattle.device.specs.Laws.{rows-length}
-use Rattle.device.proofs.Laws.{mistyped-at}
+use Rattle.device.proofs.RowChanges.{rows-length}
+use Rattle.device.proofs.RowFunctions.{mistyped-at}
 use Rattle.device.proofs.mask_mistyped.Statement.{statement}
 use Rattle.device.proofs.mask_mistyped.Tie as tie
 

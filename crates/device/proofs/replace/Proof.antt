@@ -6,7 +6,7 @@ use mathlib.Core.Bool.{_&&_}
 use borrow.Author.Needs.{needs}
 use lib.Dec.{eqb}
 use Rattle.device.specs.Device.{rowAt, replaced}
-use Rattle.device.proofs.Laws.{filled, filled-none, filled-more, filled-all}
+use Rattle.device.proofs.RowFunctions.{filled, filled-none, filled-more, filled-all}
 use Rattle.device.proofs.replace.Statement.{statement}
 use Rattle.device.proofs.replace.Tie as tie
 

@@ -2,7 +2,7 @@
 -- Assumes nothing.
 use mathlib.Core.Path.{refl}
 use borrow.Author.Needs.{needs}
-use Rattle.device.proofs.Laws.{stream-stored, stream-left}
+use Rattle.device.proofs.RowFunctions.{stream-stored, stream-left}
 use Rattle.device.proofs.set_stream.Statement.{statement}
 use Rattle.device.proofs.set_stream.Tie as tie
 

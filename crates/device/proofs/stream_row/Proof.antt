@@ -3,7 +3,7 @@
 -- Assumes nothing.
 use borrow.Author.Needs.{needs}
 use borrow.Author.Tests.{eq-eqb, ne-eqb}
-use Rattle.device.proofs.Laws.{row-low, stream-row-in, stream-row-at}
+use Rattle.device.proofs.RowFunctions.{row-low, stream-row-in, stream-row-at}
 use Rattle.device.proofs.stream_row.Statement.{statement}
 use Rattle.device.proofs.stream_row.Tie as tie
 

@@ -2,7 +2,7 @@
 -- Assumes nothing.
 use mathlib.Core.Path.{refl, _∙_}
 use borrow.Author.Needs.{needs}
-use Rattle.device.proofs.Laws.{row-low, touched-in, touched-at}
+use Rattle.device.proofs.RowFunctions.{row-low, touched-in, touched-at}
 use Rattle.device.proofs.touches_endpoint.Statement.{statement}
 use Rattle.device.proofs.touches_endpoint.Tie as tie
 

@@ -180,7 +180,7 @@ is-in-requires : tie.Need-is-in-requires
 is-in-requires c κs = search needs
 
 returns : tie.Need-returns
-returns c = rw (c .before .before .before .before .p21 .given .1) (interrupt-means _ _ _ _ _ _ _ _ _ _ (c .before .before .is-guest2 .ensures) (c .before .is-in .ensures) (c .if1 .taken))
+returns c = rw (c .before .before .before .before .before .p21 .given .1) (interrupt-means _ _ _ _ _ _ _ (c .before .before .is-guest2 .ensures) (c .before .is-in .ensures) (c .if1 .taken))
 
 cast-transfer-2 : tie.Need-cast-transfer-2
 cast-transfer-2 c = search needs
@@ -192,7 +192,7 @@ enum-known-p-22 : tie.Need-enum-known-p-22
 enum-known-p-22 c = search needs
 
 returns-2 : tie.Need-returns-2
-returns-2 c = rw (c .get32 .ensures, c .before .part-of .ensures, c .before .before .before .p .given .1) (means _ _ _ _)
+returns-2 c = rw (c .get32 .ensures, c .before .part-of .ensures, c .before .before .before .before .p .given .1) (means _ _ _ _)
 
 returns-3 : tie.Need-returns-3
 returns-3 c = rw (c .enum-told .given .1) (means _ _ _ _)
@@ -228,22 +228,22 @@ returns-13 : tie.Need-returns-13
 returns-13 c = rw (c .answers-plainly2 .ensures, c .before .before .p5 .given .1) (means _ _ _ _)
 
 returns-14 : tie.Need-returns-14
-returns-14 c = rw (c .asks-stream .ensures, c .before .before .p6 .given .1) (means _ _ _ _)
+returns-14 c = rw (c .asks-stream .ensures, c .before .before .before .p6 .given .1) (means _ _ _ _)
 
 returns-15 : tie.Need-returns-15
-returns-15 c = rw (c .asks-stream2 .ensures, c .before .before .p7 .given .1) (means _ _ _ _)
+returns-15 c = rw (c .asks-stream2 .ensures, c .before .before .before .p7 .given .1) (means _ _ _ _)
 
 returns-16 : tie.Need-returns-16
-returns-16 c = rw (c .reports-stream .ensures, c .before .before .p8 .given .1) (means _ _ _ _)
+returns-16 c = rw (c .reports-stream .ensures, c .before .before .before .p8 .given .1) (means _ _ _ _)
 
 returns-17 : tie.Need-returns-17
-returns-17 c = rw (c .asks-stream3 .ensures, c .before .before .p9 .given .1) (means _ _ _ _)
+returns-17 c = rw (c .asks-stream3 .ensures, c .before .before .before .p9 .given .1) (means _ _ _ _)
 
 returns-18 : tie.Need-returns-18
-returns-18 c = rw (c .asks-stream4 .ensures, c .before .before .p10 .given .1) (means _ _ _ _)
+returns-18 c = rw (c .asks-stream4 .ensures, c .before .before .before .p10 .given .1) (means _ _ _ _)
 
 returns-19 : tie.Need-returns-19
-returns-19 c = rw (c .reports-stream2 .ensures, c .before .before .p11 .given .1) (means _ _ _ _)
+returns-19 c = rw (c .reports-stream2 .ensures, c .before .before .before .p11 .given .1) (means _ _ _ _)
 
 returns-20 : tie.Need-returns-20
 returns-20 c = rw (c .asks-mask .ensures, c .before .before .p12 .given .1) (means _ _ _ _)
@@ -267,28 +267,28 @@ returns-26 : tie.Need-returns-26
 returns-26 c = rw (c .enum-told11 .given .1) (means _ _ _ _)
 
 returns-27 : tie.Need-returns-27
-returns-27 c = rw (c .asks-stream5 .ensures, c .before .before .p15 .given .1) (means _ _ _ _)
+returns-27 c = rw (c .asks-stream5 .ensures, c .before .before .before .p15 .given .1) (means _ _ _ _)
 
 returns-28 : tie.Need-returns-28
-returns-28 c = rw (c .asks-stream6 .ensures, c .before .before .p16 .given .1) (means _ _ _ _)
+returns-28 c = rw (c .asks-stream6 .ensures, c .before .before .before .p16 .given .1) (means _ _ _ _)
 
 returns-29 : tie.Need-returns-29
-returns-29 c = rw (c .reports-stream3 .ensures, c .before .before .p17 .given .1) (means _ _ _ _)
+returns-29 c = rw (c .reports-stream3 .ensures, c .before .before .before .p17 .given .1) (means _ _ _ _)
 
 returns-30 : tie.Need-returns-30
-returns-30 c = rw (c .transfer .ensures, c .before .before .p18 .given .1) (means _ _ _ _)
+returns-30 c = rw (c .transfer .ensures, c .before .before .before .before .p18 .given .1) (means _ _ _ _)
 
 returns-31 : tie.Need-returns-31
-returns-31 c = rw (c .transfer2 .ensures, c .before .before .p19 .given .1) (means _ _ _ _)
+returns-31 c = rw (c .transfer2 .ensures, c .before .before .before .p19 .given .1) (means _ _ _ _)
 
 returns-32 : tie.Need-returns-32
-returns-32 c = rw (c .is-guest .ensures, c .before .before .p20 .given .1) (means _ _ _ _)
+returns-32 c = rw (c .is-guest .ensures, c .before .before .before .p20 .given .1) (means _ _ _ _)
 
 returns-33 : tie.Need-returns-33
-returns-33 c = rw (c .transfer3 .ensures, c .before .before .before .before .before .p21 .given .1) (interrupt-means _ _ _ _ _ _ _ _ _ _ (c .before .before .before .is-guest2 .ensures) (c .before .before .is-in .ensures) (c .before .if1 .left))
+returns-33 c = rw (c .transfer3 .ensures, c .before .before .before .before .before .before .before .p21 .given .1) (interrupt-means _ _ _ _ _ _ _ (c .before .before .before .before .is-guest2 .ensures) (c .before .before .before .is-in .ensures) (c .before .before .if1 .left))
 
 returns-34 : tie.Need-returns-34
-returns-34 c = rw (c .before .p22 .given .1) (means _ _ _ _)
+returns-34 c = rw (c .before .before .p22 .given .1) (means _ _ _ _)
 
 pub case-of-spec : {M : Type 1} → statement M
 case-of-spec =

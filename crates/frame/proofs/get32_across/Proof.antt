@@ -3,7 +3,7 @@
 use mathlib.Core.Path.{sym, _∙_}
 use mathlib.Core.List.{_++_}
 use denote.Ref.{now}
-use Rattle.number.specs.Laws.{le-front, spelt}
+use Rattle.octets.proofs.Integers.{le-front, spelt}
 use Rattle.frame.proofs.Cases.{le-beyond}
 use borrow.Author.Needs.{needs}
 use Rattle.frame.proofs.get32_across.Statement.{statement}

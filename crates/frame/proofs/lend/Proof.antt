@@ -2,7 +2,7 @@
 -- Assumes nothing.
 use mathlib.Core.Path.{sym, ap, _∙_}
 use denote.Ref.{now}
-use Rattle.frame.specs.declared.Place.{Place}
+use Rattle.frame.specs.declared.Location.{Location}
 use Rattle.frame.specs.Frame.{bytesAt}
 use borrow.Author.Needs.{needs}
 use Rattle.frame.proofs.lend.Statement.{statement}
@@ -32,12 +32,12 @@ returns c = search needs
 returns-2 : tie.Need-returns-2
 returns-2 c =
     let s = c .before .before .before .before .before in
-    c .part2 .ensures ∙ ap (λ (p : Place). bytesAt p (s .args .size) (now (s .args .piece)) (now (s .args .hold))) (sym (c .before .enum-told2 .given .1))
+    c .part2 .ensures ∙ ap (λ (p : Location). bytesAt p (s .args .size) (now (s .args .piece)) (now (s .args .hold))) (sym (c .before .enum-told2 .given .1))
 
 returns-3 : tie.Need-returns-3
 returns-3 c =
     let s = c .before .before .before .before .before in
-    c .part3 .ensures ∙ ap (λ (p : Place). bytesAt p (s .args .size) (now (s .args .piece)) (now (s .args .hold))) (sym (c .before .enum-told3 .given .1))
+    c .part3 .ensures ∙ ap (λ (p : Location). bytesAt p (s .args .size) (now (s .args .piece)) (now (s .args .hold))) (sym (c .before .enum-told3 .given .1))
 
 pub lend-spec : {M : Type 1} → statement M
 lend-spec =

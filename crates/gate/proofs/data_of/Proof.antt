@@ -14,8 +14,8 @@ enum-told c = search needs
 enum-known-handed : tie.Need-enum-known-handed
 enum-known-handed c = search needs
 
-part-named-requires : tie.Need-part-named-requires
-part-named-requires c κs = search needs
+rest-of-requires : tie.Need-rest-of-requires
+rest-of-requires c κs = search needs
 
 part-of-requires : tie.Need-part-of-requires
 part-of-requires c κs = search needs
@@ -24,7 +24,7 @@ returns : tie.Need-returns
 returns c = data-none _ (c .enum-told .given .1) (c .before .before .body-of .ensures)
 
 returns-2 : tie.Need-returns-2
-returns-2 c = data-passed _ (c .before .before .before .handed .given .1) (c .before .before .before .before .before .body-of .ensures) (c .before .part-named .ensures) (c .part-of .ensures)
+returns-2 c = data-passed _ (c .before .before .before .handed .given .1) (c .before .before .before .before .before .body-of .ensures) (c .before .rest-of .ensures) (c .part-of .ensures)
 
 pub data-of-spec : {M : Type 1} → statement M
 data-of-spec =
@@ -33,7 +33,7 @@ data-of-spec =
     body-of-requires
     enum-told
     enum-known-handed
-    part-named-requires
+    rest-of-requires
     part-of-requires
     returns
     returns-2)

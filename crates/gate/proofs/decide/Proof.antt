@@ -74,8 +74,8 @@ enum-known-c c = search needs
 complete-requires : tie.Need-complete-requires
 complete-requires c κs = search needs
 
-place-of-requires : tie.Need-place-of-requires
-place-of-requires c κs = search needs
+location-of-requires : tie.Need-location-of-requires
+location-of-requires c κs = search needs
 
 ended-requires-3 : tie.Need-ended-requires-3
 ended-requires-3 c κs = search needs
@@ -122,7 +122,7 @@ returns-3 c =
     let ec = b .before .before .cut-of .ensures in
     λ s l.
     let en = b .barred-by .ensures s (a .from) (now (a .hold)) (l .head) (l .types-lent) (l .used-lent) (l .live-lent) (l .ids-lent) el refl (whole-is (a .from) s (now (a .hold)) (now (a .piece)) (l .head) el ed eb ec (b .before .ends-within .ensures)) in
-    header-decides (a .from) s (now (a .hold)) (now (a .piece)) (l .head) el ed eb ec en (c .before .before .before .before .before .before .before .before .before .if1 .left) (c .before .before .before .before .before .before .before .c .given .1) (c .before .before .before .before .complete .ensures .0) (c .before .place-of .ensures) (c .before .before .before .before .complete .ensures .1) (c .ended3 .ensures)
+    header-decides (a .from) s (now (a .hold)) (now (a .piece)) (l .head) el ed eb ec en (c .before .before .before .before .before .before .before .before .before .if1 .left) (c .before .before .before .before .before .before .before .c .given .1) (c .before .before .before .before .complete .ensures .0) (c .before .location-of .ensures) (c .before .before .before .before .complete .ensures .1) (c .ended3 .ensures)
 
 same-length-4 : tie.Need-same-length-4
 same-length-4 c = search needs
@@ -158,7 +158,7 @@ decide-spec =
     ended-requires-2
     enum-known-c
     complete-requires
-    place-of-requires
+    location-of-requires
     ended-requires-3
     enum-known-c-2
     take-packet-requires

@@ -9,8 +9,8 @@ use denote.Ref.{now}
 use Rattle.scan.specs.Loop.{long-of}
 use Rattle.requests.specs.declared.Slot.{Slot}
 use Rattle.requests.specs.Requests.{freeSlot}
-use Rattle.session.specs.Stored.{Sized, placed, unplaced, stored-is}
-use Rattle.gate.specs.Settled.{settled-is, made, offered}
+use Rattle.session.proofs.Stored.{Sized, placed, unplaced, stored-is}
+use Rattle.gate.proofs.Settled.{settled-is, made, offer-is}
 use borrow.Author.Needs.{needs}
 use Rattle.gate.proofs.offer.Statement.{statement}
 use Rattle.gate.proofs.offer.Tie as tie
@@ -58,8 +58,8 @@ edit-of-requires c κs = search needs
 body-of-requires : tie.Need-body-of-requires
 body-of-requires c κs = search needs
 
-rows-told-requires : tie.Need-rows-told-requires
-rows-told-requires c κs = search needs
+rows-handed-requires : tie.Need-rows-handed-requires
+rows-handed-requires c κs = search needs
 
 apply-requires : tie.Need-apply-requires
 apply-requires c κs = search needs
@@ -75,7 +75,7 @@ returns c =
     let m = k .decide .ensures (a .s) (record { head = refl; types-lent = refl; streams-lent = refl; used-lent = refl; live-lent = refl; kinds-lent = refl; ids-lent = refl }) in
     let j = c .before .before .before .before .before .before .before .before .before .before .before in
     let e = settled-is (a .s) d (j .before .wanted .ensures) (slot-is j) (c .before .before .before .before .before .before .before .before .before .before .settle .ensures) in
-    offered (a .from) (a .s) (now (a .hold)) (now (a .piece)) _ d m e (c .before .before .before .before .before .before .before .before .hold-to .ensures) (c .before .before .before .before .before .before .before .change-of .ensures) (c .before .before .body-of .ensures) (c .before .rows-told .ensures) (c .apply .ensures)
+    offer-is (a .from) (a .s) (now (a .hold)) (now (a .piece)) _ d m e (c .before .before .before .before .before .before .before .before .hold-to .ensures) (c .before .before .before .before .before .before .before .change-of .ensures) (c .before .before .body-of .ensures) (c .before .rows-handed .ensures) (c .apply .ensures)
 
 store-requires : tie.Need-store-requires
 store-requires c κs = search needs
@@ -133,7 +133,7 @@ offer-spec =
     change-of-requires
     edit-of-requires
     body-of-requires
-    rows-told-requires
+    rows-handed-requires
     apply-requires
     same-length
     returns

@@ -7,8 +7,8 @@ use borrow.Author.Needs.{needs}
 use Rattle.gate.proofs.settle.Statement.{statement}
 use Rattle.gate.proofs.settle.Tie as tie
 
-settle-requires : tie.Need-settle-requires
-settle-requires c κs = search needs
+settle-ruling-requires : tie.Need-settle-ruling-requires
+settle-ruling-requires c κs = search needs
 
 enum-known-ruling : tie.Need-enum-known-ruling
 enum-known-ruling c = search needs
@@ -27,7 +27,7 @@ unfolding concluded
 returns c =
     let r = c .before .before in
     let s = r .before .before in
-    c .ended .ensures ∙ ap (concludedBy (s .before .before .args .d)) (sym (r .ruling .given .1) ∙ s .settle .ensures)
+    c .ended .ensures ∙ ap (concludedBy (s .before .before .args .d)) (sym (r .ruling .given .1) ∙ s .settle-ruling .ensures)
 
 returns-2 : tie.Need-returns-2
 unfolding concluded
@@ -35,19 +35,19 @@ returns-2 c =
     let s = c .before .before in
     let d = s .before .before .args .d in
     ap (λ (u : Ruling). record { answer = d .answer; held = d .held; stopped = d .stopped; ruling = u }) (c .enum-told .given .1)
-    ∙ ap (concludedBy d) (sym (c .enum-told .given .1) ∙ s .settle .ensures)
+    ∙ ap (concludedBy d) (sym (c .enum-told .given .1) ∙ s .settle-ruling .ensures)
 
 returns-3 : tie.Need-returns-3
 unfolding concluded
 returns-3 c =
     let s = c .before .before in
-    ap (concludedBy (s .before .before .args .d)) (sym (c .enum-told2 .given .1) ∙ s .settle .ensures)
+    ap (concludedBy (s .before .before .args .d)) (sym (c .enum-told2 .given .1) ∙ s .settle-ruling .ensures)
 
 pub settle-spec : {M : Type 1} → statement M
 settle-spec =
     tie.close
     (tie.spec
-    settle-requires
+    settle-ruling-requires
     enum-known-ruling
     ended-requires
     enum-told

@@ -10,8 +10,8 @@ use Rattle.gate.proofs.take_packet.Tie as tie
 complete-requires : tie.Need-complete-requires
 complete-requires c κs = search needs
 
-place-of-requires : tie.Need-place-of-requires
-place-of-requires c κs = search needs
+location-of-requires : tie.Need-location-of-requires
+location-of-requires c κs = search needs
 
 lend-requires : tie.Need-lend-requires
 lend-requires c κs = search needs
@@ -77,7 +77,7 @@ returns c =
     let a = k .before .before .before .before .args in
     let t = rw (b .before .before .before .before .saturating-sub .ensures, b .before .before .get .ensures .0, b .before .before .before .saturating-sub2 .ensures) at (b .read-behind .ensures) in
     λ s from l el ed r cut.
-    packet-refused from s (now (a .hold)) (now (a .piece)) (l .head) el ed r cut (k .complete .ensures .0) (b .before .before .before .before .before .before .before .place-of .ensures) (k .complete .ensures .1) (b .before .before .before .before .before .lend .ensures) (b .before .part .ensures) (b .read-behind .result) t (c .before .before .before .reading .given .1) (c .ended .ensures)
+    packet-refused from s (now (a .hold)) (now (a .piece)) (l .head) el ed r cut (k .complete .ensures .0) (b .before .before .before .before .before .before .before .location-of .ensures) (k .complete .ensures .1) (b .before .before .before .before .before .lend .ensures) (b .before .part .ensures) (b .read-behind .result) t (c .before .before .before .reading .given .1) (c .ended .ensures)
 
 same-length-2 : tie.Need-same-length-2
 same-length-2 c = c .before .before .before .before .before .before .before .before .before .before .before .before .before .before .before .before .before .before .before .complete .kept .0
@@ -91,7 +91,7 @@ returns-2 c =
     let t = rw (b .before .before .before .before .saturating-sub .ensures, b .before .before .get .ensures .0, b .before .before .before .saturating-sub2 .ensures) at (b .read-behind .ensures) in
     λ s from l el ed r cut.
     let q = u .rule .ensures (s .rows) (s .requests) (l .types-lent) (l .streams-lent) (record { used = l .used-lent; live = l .live-lent; kinds = l .kinds-lent; ids = l .ids-lent }) in
-    packet-ruled-out from s (now (a .hold)) (now (a .piece)) (l .head) el ed r cut (k .complete .ensures .0) (b .before .before .before .before .before .before .before .place-of .ensures) (k .complete .ensures .1) (b .before .before .before .before .before .lend .ensures) (b .before .part .ensures) (b .read-behind .result) t (u .before .before .before .reading2 .given .1) (u .before .case-of .ensures) q (c .before .before .ruling .given .1) (c .ended2 .ensures)
+    packet-ruled-out from s (now (a .hold)) (now (a .piece)) (l .head) el ed r cut (k .complete .ensures .0) (b .before .before .before .before .before .before .before .location-of .ensures) (k .complete .ensures .1) (b .before .before .before .before .before .lend .ensures) (b .before .part .ensures) (b .read-behind .result) t (u .before .before .before .reading2 .given .1) (u .before .case-of .ensures) q (c .before .before .ruling .given .1) (c .ended2 .ensures)
 
 same-length-3 : tie.Need-same-length-3
 same-length-3 c = c .before .before .before .before .before .before .before .before .before .before .before .before .before .before .before .before .before .before .complete .kept .0
@@ -105,7 +105,7 @@ returns-3 c =
     let t = rw (b .before .before .before .before .saturating-sub .ensures, b .before .before .get .ensures .0, b .before .before .before .saturating-sub2 .ensures) at (b .read-behind .ensures) in
     λ s from l el ed r cut.
     let q = u .rule .ensures (s .rows) (s .requests) (l .types-lent) (l .streams-lent) (record { used = l .used-lent; live = l .live-lent; kinds = l .kinds-lent; ids = l .ids-lent }) in
-    packet-ruled from s (now (a .hold)) (now (a .piece)) (l .head) el ed r cut (k .complete .ensures .0) (b .before .before .before .before .before .before .before .place-of .ensures) (k .complete .ensures .1) (b .before .before .before .before .before .lend .ensures) (b .before .part .ensures) (b .read-behind .result) t (u .before .before .before .reading2 .given .1) (u .before .case-of .ensures) (u .rule .result) q (c .before .enum-told .given .1) refl (c .passing .ensures)
+    packet-ruled from s (now (a .hold)) (now (a .piece)) (l .head) el ed r cut (k .complete .ensures .0) (b .before .before .before .before .before .before .before .location-of .ensures) (k .complete .ensures .1) (b .before .before .before .before .before .lend .ensures) (b .before .part .ensures) (b .read-behind .result) t (u .before .before .before .reading2 .given .1) (u .before .case-of .ensures) (u .rule .result) q (c .before .enum-told .given .1) refl (c .passing .ensures)
 
 same-length-4 : tie.Need-same-length-4
 same-length-4 c = c .before .before .before .before .before .before .before .before .before .before .before .before .before .before .before .before .before .before .complete .kept .0
@@ -119,14 +119,14 @@ returns-4 c =
     let t = rw (b .before .before .before .before .saturating-sub .ensures, b .before .before .get .ensures .0, b .before .before .before .saturating-sub2 .ensures) at (b .read-behind .ensures) in
     λ s from l el ed r cut.
     let q = u .rule .ensures (s .rows) (s .requests) (l .types-lent) (l .streams-lent) (record { used = l .used-lent; live = l .live-lent; kinds = l .kinds-lent; ids = l .ids-lent }) in
-    packet-ruled from s (now (a .hold)) (now (a .piece)) (l .head) el ed r cut (k .complete .ensures .0) (b .before .before .before .before .before .before .before .place-of .ensures) (k .complete .ensures .1) (b .before .before .before .before .before .lend .ensures) (b .before .part .ensures) (b .read-behind .result) t (u .before .before .before .reading2 .given .1) (u .before .case-of .ensures) (u .rule .result) q (c .before .enum-told2 .given .1) refl (c .passing2 .ensures)
+    packet-ruled from s (now (a .hold)) (now (a .piece)) (l .head) el ed r cut (k .complete .ensures .0) (b .before .before .before .before .before .before .before .location-of .ensures) (k .complete .ensures .1) (b .before .before .before .before .before .lend .ensures) (b .before .part .ensures) (b .read-behind .result) t (u .before .before .before .reading2 .given .1) (u .before .case-of .ensures) (u .rule .result) q (c .before .enum-told2 .given .1) refl (c .passing2 .ensures)
 
 pub take-packet-spec : {M : Type 1} → statement M
 take-packet-spec =
     tie.close
     (tie.spec
     complete-requires
-    place-of-requires
+    location-of-requires
     lend-requires
     saturating-sub-requires
     cast-t32

@@ -5,7 +5,7 @@ use Prim.Native.Nat.{_≤_, min}
 use native.Mathlib.Omega.{arith}
 use borrow.Author.Needs.{needs}
 use Rattle.header.specs.Header.{headerSize}
-use Rattle.header.specs.Laws.{id-widths}
+use Rattle.header.proofs.Widths.{id-widths}
 use Rattle.header.proofs.read_header.Statement.{statement}
 use Rattle.header.proofs.read_header.Tie as tie
 

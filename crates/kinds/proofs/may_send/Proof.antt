@@ -1,35 +1,37 @@
--- `kinds::may_send` meets its contract: each number is the table's column of what a side sends, a bit for each slot, and past the table anyone sends.
+-- `kinds::may_send` meets its contract: a side sends what the other does not send alone.
 -- Assumes nothing.
-use mathlib.Core.Path.{sym, _∙_}
-use Prim.Native.Nat.{_/_, _^_}
-use lib.Bits.{and-mask}
-use Rattle.kinds.proofs.Columns.{past, guest-column, host-column}
+use mathlib.Core.Path.{_≡_, refl}
+use mathlib.Core.Bool.{Bool, true, false, not}
+use Rattle.header.specs.declared.Side.the-variants.{Guest, Host}
+use Rattle.kinds.specs.Table.{kindAt}
+use Rattle.kinds.specs.Number.{sends}
 use borrow.Author.Needs.{needs}
 use Rattle.kinds.proofs.may_send.Statement.{statement}
 use Rattle.kinds.proofs.may_send.Tie as tie
 
+not-not : (b : Bool) → not (not b) ≡ b
+not-not true = refl
+not-not false = refl
+
+enum-told : tie.Need-enum-told
+enum-told c = search needs
+
+is-hosts-requires : tie.Need-is-hosts-requires
+is-hosts-requires c κs = search needs
+
+enum-told-2 : tie.Need-enum-told-2
+enum-told-2 c = search needs
+
+is-guests-requires : tie.Need-is-guests-requires
+is-guests-requires c κs = search needs
+
 returns : tie.Need-returns
-returns c = rw (past (c .before .args .slot) (c .if1 .taken))
-
-is-guest-requires : tie.Need-is-guest-requires
-is-guest-requires c κs = search needs
-
-shr-result : tie.Need-shr-result
-shr-result c = search needs
-
-shr-result-2 : tie.Need-shr-result-2
-shr-result-2 c = search needs
+returns c = rw (c .before .enum-told .given .1, c .is-hosts .ensures) (not-not (sends (kindAt (c .before .before .before .args .slot) .sender) Guest))
 
 returns-2 : tie.Need-returns-2
-returns-2 c =
-    let a = c .before .before .before .args in
-    rw (and-mask (4159551177 / 2 ^ a .slot) 1) (guest-column (a .slot) (c .before .before .if1 .left) (a .from) (sym (c .before .is-guest .ensures) ∙ c .if2 .taken))
-
-returns-3 : tie.Need-returns-3
-returns-3 c =
-    let a = c .before .before .before .args in
-    rw (and-mask (8465303863 / 2 ^ a .slot) 1) (host-column (a .slot) (c .before .before .if1 .left) (a .from) (sym (c .before .is-guest .ensures) ∙ c .if2 .left))
+returns-2 c = rw (c .before .enum-told2 .given .1, c .is-guests .ensures) (not-not (sends (kindAt (c .before .before .before .args .slot) .sender) Host))
 
 pub may-send-spec : {M : Type 1} → statement M
 may-send-spec =
-    tie.close (tie.spec returns is-guest-requires shr-result shr-result-2 returns-2 returns-3)
+    tie.close
+    (tie.spec enum-told is-hosts-requires enum-told-2 is-guests-requires returns returns-2)

@@ -4,7 +4,7 @@ use Prim.Native.Nat.{ℕ, _+_, _*_, _≤_, min}
 use mathlib.Core.Path.{_≡_, ap, _∙_}
 use native.Mathlib.Nat.{mul-le-mul-right}
 use native.Mathlib.Omega.{arith}
-use Rattle.number.specs.Little.{le}
+use Rattle.octets.specs.Little.{le}
 use Rattle.packet.proofs.Rows.{cell-there, cell-short, cell-past, one-more}
 use borrow.Author.Needs.{needs}
 use Rattle.packet.proofs.cell.Statement.{statement}

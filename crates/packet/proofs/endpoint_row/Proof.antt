@@ -1,14 +1,19 @@
 -- `packet::endpoint_row` meets its contract: each column stands behind those before it that are there.
 -- Assumes nothing.
+use Prim.Native.Nat.{ℕ}
+use mathlib.Core.Path.{ap, _∙_}
 use lib.Dec.{lit≤, lit<}
-use Rattle.packet.specs.Packet.{inPart}
+use Rattle.packet.specs.Packet.{inPart, rowsIn}
 use Rattle.packet.proofs.Rows.{streams-at, endpoint-cells}
 use borrow.Author.Needs.{needs}
 use Rattle.packet.proofs.endpoint_row.Statement.{statement}
 use Rattle.packet.proofs.endpoint_row.Tie as tie
 
-part-of-requires : tie.Need-part-of-requires
-part-of-requires c κs = search needs
+table-size-requires : tie.Need-table-size-requires
+table-size-requires c κs = search needs
+
+rows-in-requires : tie.Need-rows-in-requires
+rows-in-requires c κs = search needs
 
 cast-i : tie.Need-cast-i
 cast-i c = search needs
@@ -35,7 +40,7 @@ given16-requires : tie.Need-given16-requires
 given16-requires c κs = search needs
 
 cell-requires-2 : tie.Need-cell-requires-2
-cell-requires-2 c κs = (rw (c .before .before .before .before .before .choose .ensures) (streams-at (c .before .before .before .before .before .before .before .before .before .args .packets)), lit< tt, lit≤ tt)
+cell-requires-2 c κs = (rw (c .before .before .before .before .before .choose .ensures) (streams-at (c .before .before .before .before .before .before .before .before .before .before .before .args .t .maxpacket)), lit< tt, lit≤ tt)
 
 cast-given32 : tie.Need-cast-given32
 cast-given32 c = search needs
@@ -45,7 +50,9 @@ given32-requires c κs = search needs
 
 returns : tie.Need-returns
 returns c =
-    let a = c .before .before .before .before .before .before .before .before .before .before .before .args in
+    let a = c .before .before .before .before .before .before .before .before .before .before .before .before .before .args in
+    let r = c .before .before .before .before .before .before .before .before .before in
+    let e = r .rows-in .ensures ∙ ap (λ (n : ℕ). rowsIn n (inPart (a .t .rows) (a .body .now))) (r .before .table-size .ensures) in
     rw (
       c .given32 .ensures,
       c .before .cell2 .ensures .0,
@@ -55,15 +62,16 @@ returns c =
       c .before .before .before .before .before .cell82 .ensures,
       c .before .before .before .before .before .before .cell8 .ensures,
       c .before .before .before .before .before .before .before .choose .ensures,
-      c .before .before .before .before .before .before .before .before .before .part-of .ensures,
+      e,
     )
-    (endpoint-cells (inPart (a .rows) (a .body .now)) (a .packets) (a .streams) (a .row .0))
+    (endpoint-cells (a .t) (a .body .now) (a .row .0))
 
 pub endpoint-row-spec : {M : Type 1} → statement M
 endpoint-row-spec =
     tie.close
     (tie.spec
-    part-of-requires
+    table-size-requires
+    rows-in-requires
     cast-i
     choose-requires
     cell8-requires

@@ -3,9 +3,8 @@
 use Prim.Native.Nat.{_+_, _*_, _≤_, _<_}
 use mathlib.Core.Path.{sym}
 use native.Mathlib.Omega.{arith}
-use lib.ListN.{length, drop, length-drop}
+use lib.ListN.{length}
 use borrow.Author.Tests.{lt-ltb, le-ltb, le-leb, lt-leb}
-use Rattle.number.specs.Laws.{le-drop}
 use Rattle.packet.specs.Packet.{inPart}
 use borrow.Author.Needs.{needs}
 use Rattle.packet.proofs.word_of.Statement.{statement}
@@ -20,36 +19,28 @@ mul-if2 c = search needs
 add-if2 : tie.Need-add-if2
 add-if2 c = search needs
 
-add-if2-2 : tie.Need-add-if2-2
-add-if2-2 c = search needs
-
 mul-get32 : tie.Need-mul-get32
 mul-get32 c = search needs
-
-add-get32 : tie.Need-add-get32
-add-get32 c = search needs
 
 get32-requires : tie.Need-get32-requires
 get32-requires c κs = search needs
 
 returns : tie.Need-returns
 returns c =
-    let a = c .before .before .before .before .before .args in
-    let s = inPart (a .rest) (a .body .now) in
+    let a = c .before .before .before .before .before .before .args in
     let e = c .before .before .before .part-of .ensures in
-    let l : 4 * a .i + 4 ≤ length (drop 64 s) = rw (length-drop 64 s, sym e) (omega arith) in
-    rw (c .get32 .ensures, lt-ltb (a .i) 8 (omega arith), le-leb (4 * a .i + 4) (length (drop 64 s)) l, le-drop 4 64 s (4 * a .i), e)
+    let l : 4 * a .i + 4 ≤ length (inPart (a .h .words) (a .body .now)) = rw (sym e) (omega arith) in
+    rw (c .get32 .ensures, lt-ltb (a .i) 8 (omega arith), le-leb (4 * a .i + 4) (length (inPart (a .h .words) (a .body .now))) l, e)
 
 returns-2 : tie.Need-returns-2
 returns-2 c =
-    let a = c .before .before .before .before .args in
-    let s = inPart (a .rest) (a .body .now) in
+    let a = c .before .before .before .before .before .args in
     let e = c .before .before .part-of .ensures in
-    let l : length (drop 64 s) < 4 * a .i + 4 = rw (length-drop 64 s, sym e) (omega arith) in
-    rw (lt-ltb (a .i) 8 (omega arith), lt-leb (4 * a .i + 4) (length (drop 64 s)) l)
+    let l : length (inPart (a .h .words) (a .body .now)) < 4 * a .i + 4 = rw (sym e) (omega arith) in
+    rw (lt-ltb (a .i) 8 (omega arith), lt-leb (4 * a .i + 4) (length (inPart (a .h .words) (a .body .now))) l)
 
 returns-3 : tie.Need-returns-3
-returns-3 c = let a = c .before .before .before .args in rw (le-ltb (a .i) 8 (c .if1 .left))
+returns-3 c = let a = c .before .before .before .before .args in rw (le-ltb (a .i) 8 (c .if1 .left))
 
 pub word-of-spec : {M : Type 1} → statement M
 word-of-spec =
@@ -58,9 +49,7 @@ word-of-spec =
     part-of-requires
     mul-if2
     add-if2
-    add-if2-2
     mul-get32
-    add-get32
     get32-requires
     returns
     returns-2

@@ -20,9 +20,12 @@ slice-aggregate-report-input-3 c = search needs
 slice-aggregate-report-input-4 : tie.Need-slice-aggregate-report-input-4
 slice-aggregate-report-input-4 c = search needs
 
+slice-aggregate-report-input-5 : tie.Need-slice-aggregate-report-input-5
+slice-aggregate-report-input-5 c = search needs
+
 report-input-requires : tie.Need-report-input-requires
 unfolding start
-report-input-requires c κs = (refl, refl, length-replicate {A = ℕ} 65536 0, length-replicate {A = ℕ} 262144 0)
+report-input-requires c κs = (refl, refl, length-replicate {A = ℕ} 65536 0, length-replicate {A = ℕ} 262144 0, length-replicate {A = ℕ} 256 0)
 
 returns : tie.Need-returns
 returns c = search needs
@@ -35,5 +38,6 @@ main-spec =
     slice-aggregate-report-input-2
     slice-aggregate-report-input-3
     slice-aggregate-report-input-4
+    slice-aggregate-report-input-5
     report-input-requires
     returns)

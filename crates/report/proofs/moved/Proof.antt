@@ -2,7 +2,7 @@
 -- Assumes nothing.
 use mathlib.Core.Path.{_∙_}
 use native.Mathlib.Omega.{arith}
-use Rattle.report.proofs.Laws.{told-count, told-moved, told-none}
+use Rattle.report.proofs.Buffers.{told-count, told-moved, told-none}
 use borrow.Author.Needs.{needs}
 use Rattle.report.proofs.moved.Statement.{statement}
 use Rattle.report.proofs.moved.Tie as tie

@@ -5,7 +5,7 @@ use mathlib.Core.Path.{sym}
 use native.Mathlib.Omega.{arith}
 use lib.ListN.{length}
 use lib.Seq.{length-take-le}
-use Rattle.capture.specs.Laws.{totals-short}
+use Rattle.capture.proofs.LineLaws.{totals-short}
 use borrow.Author.Needs.{needs}
 use Rattle.report.proofs.print_totals.Statement.{statement}
 use Rattle.report.proofs.print_totals.Tie as tie

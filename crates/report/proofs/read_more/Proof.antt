@@ -4,7 +4,9 @@ use Prim.Native.Nat.{_+_, _-_, _≤_}
 use mathlib.Core.Path.{refl}
 use native.Mathlib.Omega.{arith}
 use lib.ListN.{length}
-use Rattle.report.proofs.Laws.{shift-keeps, none-came}
+use mir.Syntax.{w64}
+use mir.Val.{toZ, ofZ}
+use Rattle.report.proofs.Buffers.{failed-none, shift-keeps, none-came}
 use borrow.Author.Needs.{needs}
 use Rattle.report.proofs.read_more.Statement.{statement}
 use Rattle.report.proofs.read_more.Tie as tie
@@ -39,18 +41,23 @@ add-next c = search needs
 same-length : tie.Need-same-length
 same-length c = search needs
 
+failed-requires : tie.Need-failed-requires
+failed-requires c κs = search needs
+
 returns : tie.Need-returns
 returns c =
-    let s = c .before .before .before .before .before .before .before in
+    let m = c .before in
+    let s = m .before .before .before .before .before .before .before in
     let a = s .before .before .before .before in
     let p = a .args .p in
     let h : p .start + (p .end - p .start) ≤ length (a .args .input .now) = omega (arith, a .pre .0 .order, a .pre .0 .within, a .pre .1) in
     record {
       fits = search needs;
       state = refl;
-      kept = shift-keeps (a .args .input .now) (c .before .before .before .read .last .1 .0) (p .start) (p .end - p .start) (c .moved .result) h (s .shift .ensures);
+      kept = shift-keeps (a .args .input .now) (m .before .before .before .read .last .1 .0) (p .start) (p .end - p .start) (m .moved .result) h (s .shift .ensures);
       more = omega arith;
-      last = none-came (p .end - p .start) (c .moved .result);
+      last = none-came (p .end - p .start) (m .moved .result);
+      cut = failed-none (toZ w64 (ofZ w64 (m .before .before .before .read .result))) _ (m .moved .ensures .0) (c .failed .ensures);
     }
 
 pub read-more-spec : {M : Type 1} → statement M
@@ -66,5 +73,6 @@ read-more-spec =
     read-requires
     moved-requires
     add-next
+    failed-requires
     same-length
     returns)

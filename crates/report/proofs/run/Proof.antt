@@ -9,10 +9,10 @@ use borrow.Author.Tests.{ltb-true, not-true}
 use mathlib.Core.Bool.{not}
 use lib.ListN.{length}
 use lib.Dec.{ltb}
-use Rattle.number.specs.Logic.{and-parts}
+use Rattle.octets.proofs.Logic.{and-parts}
 use Rattle.report.specs.Program.{Fits, memory, beginning, Turns}
 use Rattle.report.specs.Output.{steps-fit}
-use Rattle.report.proofs.Laws.{run-begins, begun-fits, run-goes, run-ends}
+use Rattle.report.proofs.Buffers.{run-begins, begun-fits, run-goes, run-ends}
 use Rattle.report.proofs.run.Statement.{statement}
 use Rattle.report.proofs.run.Tie as tie
 

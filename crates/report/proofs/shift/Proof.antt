@@ -7,7 +7,7 @@ use borrow.Author.Needs.{needs}
 use mathlib.Core.List.{List}
 use lib.ListN.{length, getD, set, take, drop}
 use lib.Seq.{sets}
-use Rattle.report.proofs.Laws.{shift-more}
+use Rattle.report.proofs.Buffers.{shift-more}
 use Rattle.report.proofs.shift.Statement.{statement}
 use Rattle.report.proofs.shift.Tie as tie
 

@@ -4,10 +4,10 @@ use Prim.Native.Nat.{_+_, _-_, _≤_}
 use mathlib.Core.Path.{_≡_, refl, sym, _∙_}
 use native.Mathlib.Omega.{arith}
 use lib.ListN.{length}
-use Rattle.transcript.specs.declared.Next.the-variants.{Line, Wait}
+use Rattle.transcript.specs.declared.NextLine.the-variants.{LineEnd, Wait}
 use Rattle.transcript.specs.Input.{nextOf}
 use Rattle.report.specs.Program.{unread, step-line, step-end, step-read}
-use Rattle.report.proofs.Laws.{line-within, wait-within}
+use Rattle.report.proofs.Buffers.{line-within, wait-within}
 use borrow.Author.Needs.{needs}
 use Rattle.report.proofs.step.Statement.{statement}
 use Rattle.report.proofs.step.Tie as tie
@@ -30,7 +30,7 @@ enum-known-n c = search needs
 -- what the unread bytes begin with
 begins : (c : tie.After-n)
     → nextOf (unread (c .before .before .before .before .before .before .before .before .before .args .p) (c .before .before .before .before .before .before .before .before .before .args .input .now)) (c .before .before .before .before .before .before .before .before .before .args .p .last)
-    ≡ Line (c .n .given .0 .0)
+    ≡ LineEnd (c .n .given .0 .0)
 begins c = sym (c .before .before .next-line .ensures) ∙ c .n .given .1
 
 waits : (c : tie.After-enum-told)

@@ -9,10 +9,10 @@ use Rattle.report.proofs.write_all.Statement.{statement}
 use Rattle.report.proofs.write_all.Tie as tie
 
 abbrev Inv-loop : tie.InvT-loop
-Inv-loop s done₀ done = done ≤ length s
+Inv-loop fd s done₀ done = done ≤ length s
 
 abbrev μ-loop : tie.MeasureT-loop
-μ-loop s done₀ done = length s - done
+μ-loop fd s done₀ done = length s - done
 
 loop-holds : tie.Need-loop-holds Inv-loop μ-loop
 loop-holds c = omega arith

@@ -2,7 +2,7 @@
 -- Assumes nothing.
 use mathlib.Core.Path.{sym}
 use lib.Seq.{length-take-le}
-use Rattle.report.proofs.Laws.{writes-much, writes-not}
+use Rattle.report.proofs.Buffers.{writes-much, writes-not}
 use borrow.Author.Needs.{needs}
 use Rattle.report.proofs.write_much.Statement.{statement}
 use Rattle.report.proofs.write_much.Tie as tie
@@ -14,7 +14,7 @@ write-all-requires : tie.Need-write-all-requires
 write-all-requires c κs = search needs
 
 returns : tie.Need-returns
-returns c = writes-much (c .before .before .before .before .before .args .p) (c .before .before .before .if1 .taken) (c .before .write-all .result)
+returns c = writes-much (c .before .before .before .before .before .before .args .p) (c .before .before .before .before .if1 .taken) (c .before .before .write-all .result)
 
 returns-2 : tie.Need-returns-2
 returns-2 c = writes-not (c .before .before .args .p) (c .if1 .left)

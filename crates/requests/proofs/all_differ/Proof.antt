@@ -6,7 +6,7 @@ use native.Mathlib.Omega.{arith}
 use lib.ListN.{length, drop}
 use borrow.Author.Needs.{needs}
 use Rattle.requests.specs.Requests.{distinct}
-use Rattle.requests.proofs.Laws.{distinct-not, distinct-more, distinct-none}
+use Rattle.requests.proofs.Loops.{distinct-not, distinct-more, distinct-none}
 use Rattle.requests.proofs.all_differ.Statement.{statement}
 use Rattle.requests.proofs.all_differ.Tie as tie
 

@@ -3,7 +3,7 @@
 use mathlib.Core.Path.{_∙_}
 use borrow.Author.Needs.{needs}
 use Rattle.requests.specs.Requests.{cleared}
-use Rattle.requests.proofs.Laws.{flags-told}
+use Rattle.requests.proofs.Loops.{flags-told}
 use Rattle.requests.proofs.clear.Statement.{statement}
 use Rattle.requests.proofs.clear.Tie as tie
 

@@ -8,9 +8,9 @@ use lib.ListN.{length, getD}
 use lib.Dec.{eqb}
 use borrow.Author.Needs.{needs}
 use borrow.Author.Count.{below-none}
-use Rattle.scan.specs.Laws.{tabulated-is}
+use Rattle.scan.proofs.Searches.{tabulated-is}
 use Rattle.requests.specs.Requests.{placeAt, ends}
-use Rattle.requests.proofs.Laws.{ending-at, filled}
+use Rattle.requests.proofs.Loops.{ending-at, filled}
 use Rattle.requests.proofs.ending.Statement.{statement}
 use Rattle.requests.proofs.ending.Tie as tie
 

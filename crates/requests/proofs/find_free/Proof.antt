@@ -9,7 +9,7 @@ use lib.ListN.{getD}
 use borrow.Author.Needs.{needs}
 use borrow.Author.Count.{below-none, below-more}
 use borrow.Author.Tests.{not-true, not-false}
-use Rattle.requests.proofs.Laws.{free-here, free-next, free-none}
+use Rattle.requests.proofs.Loops.{free-here, free-next, free-none}
 use Rattle.requests.proofs.find_free.Statement.{statement}
 use Rattle.requests.proofs.find_free.Tie as tie
 

@@ -8,7 +8,7 @@ use lib.ListN.{getD}
 use lib.Dec.{eqb}
 use borrow.Author.Needs.{needs}
 use borrow.Author.Count.{below-none, below-more}
-use Rattle.requests.proofs.Laws.{id-is, search-hit, search-none}
+use Rattle.requests.proofs.Loops.{id-is, search-hit, search-none}
 use Rattle.requests.proofs.find_id.Statement.{statement}
 use Rattle.requests.proofs.find_id.Tie as tie
 

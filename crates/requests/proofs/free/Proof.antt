@@ -4,7 +4,7 @@ use mathlib.Core.Logic.{⊎-elim}
 use native.Mathlib.Omega.{arith}
 use borrow.Author.Needs.{needs}
 use Rattle.scan.specs.Loop.{long-of}
-use Rattle.requests.proofs.Laws.{Long, freed-at, freed-past}
+use Rattle.requests.proofs.Loops.{Long, freed-at, freed-past}
 use Rattle.requests.proofs.free.Statement.{statement}
 use Rattle.requests.proofs.free.Tie as tie
 

@@ -5,7 +5,7 @@ use mathlib.Core.Logic.{⊎-elim}
 use native.Mathlib.Omega.{arith}
 use borrow.Author.Needs.{needs}
 use Rattle.scan.specs.Loop.{long-of}
-use Rattle.requests.proofs.Laws.{Long, Partly, partly-none, partly-hit, partly-miss, partly-all}
+use Rattle.requests.proofs.Loops.{Long, Partly, partly-none, partly-hit, partly-miss, partly-all}
 use Rattle.requests.proofs.free_these.Statement.{statement}
 use Rattle.requests.proofs.free_these.Tie as tie
 

@@ -11,7 +11,7 @@ use lib.Seq.{length-take-le}
 use borrow.Author.Needs.{needs}
 use Rattle.requests.specs.declared.Requests.{Requests}
 use Rattle.requests.specs.Requests.{distinct, idsDiffer, liveIds, placesOf}
-use Rattle.requests.proofs.Laws.{few-differ, gathered-more, gathered-same, gathered-all}
+use Rattle.requests.proofs.Loops.{few-differ, gathered-more, gathered-same, gathered-all}
 use Rattle.requests.proofs.ids_differ.Statement.{statement}
 use Rattle.requests.proofs.ids_differ.Tie as tie
 

@@ -8,7 +8,7 @@ use lib.ListN.{getD}
 use borrow.Author.Needs.{needs}
 use borrow.Author.Count.{below-none, below-more}
 use Rattle.requests.specs.Requests.{isSome, isSetting}
-use Rattle.requests.proofs.Laws.{settling-is, search-hit, search-none}
+use Rattle.requests.proofs.Loops.{settling-is, search-hit, search-none}
 use Rattle.requests.proofs.is_settling.Statement.{statement}
 use Rattle.requests.proofs.is_settling.Tie as tie
 

@@ -7,9 +7,9 @@ use native.Mathlib.Omega.{arith}
 use lib.ListN.{length, getD}
 use borrow.Author.Needs.{needs}
 use borrow.Author.Count.{below-none}
-use Rattle.scan.specs.Laws.{tabulated-is}
+use Rattle.scan.proofs.Searches.{tabulated-is}
 use Rattle.requests.specs.Requests.{placeAt}
-use Rattle.requests.proofs.Laws.{lives, filled}
+use Rattle.requests.proofs.Loops.{lives, filled}
 use Rattle.requests.proofs.living.Statement.{statement}
 use Rattle.requests.proofs.living.Tie as tie
 

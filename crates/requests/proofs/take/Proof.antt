@@ -3,7 +3,7 @@
 use native.Mathlib.Omega.{arith}
 use borrow.Author.Needs.{needs}
 use Rattle.scan.specs.Loop.{long-of}
-use Rattle.requests.proofs.Laws.{Long, taken-at, taken-past}
+use Rattle.requests.proofs.Loops.{Long, taken-at, taken-past}
 use Rattle.requests.proofs.take.Statement.{statement}
 use Rattle.requests.proofs.take.Tie as tie
 

@@ -5,7 +5,7 @@ use mathlib.Core.Path.{ap, sym, _∙_, _≡_}
 use native.Mathlib.Omega.{arith}
 use borrow.Author.Needs.{needs}
 use Rattle.requests.specs.Requests.{trimmed}
-use Rattle.requests.proofs.Laws.{trimmed-hit, trimmed-miss, trimmed-none}
+use Rattle.requests.proofs.Loops.{trimmed-hit, trimmed-miss, trimmed-none}
 use Rattle.requests.proofs.trim.Statement.{statement}
 use Rattle.requests.proofs.trim.Tie as tie
 

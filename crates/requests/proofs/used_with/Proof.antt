@@ -4,7 +4,7 @@ use native.Mathlib.Numerals.{add-one}
 use native.Mathlib.Omega.{arith}
 use lib.Dec.{leb, ltb}
 use borrow.Author.Tests.{leb-false}
-use Rattle.number.specs.Logic.{or-parts}
+use Rattle.octets.proofs.Logic.{or-parts}
 use Rattle.requests.proofs.used_with.Statement.{statement}
 use Rattle.requests.proofs.used_with.Tie as tie
 

@@ -1,8 +1,15 @@
--- `rules::buffered_bulk` meets its contract: each part of the facts is the call's that makes it.
+-- `rules::buffered_bulk` meets its contract: what its calls give is what the law of its kind has.
 -- Assumes nothing.
+use Rattle.rules.proofs.EachKind as law
 use borrow.Author.Needs.{needs}
 use Rattle.rules.proofs.buffered_bulk.Statement.{statement}
 use Rattle.rules.proofs.buffered_bulk.Tie as tie
+
+part-of-requires : tie.Need-part-of-requires
+part-of-requires c κs = search needs
+
+cast-judged : tie.Need-cast-judged
+cast-judged c = search needs
 
 status-at-requires : tie.Need-status-at-requires
 status-at-requires c κs = search needs
@@ -10,12 +17,19 @@ status-at-requires c κs = search needs
 in-at-requires : tie.Need-in-at-requires
 in-at-requires c κs = search needs
 
-carrying-requires : tie.Need-carrying-requires
-carrying-requires c κs = search needs
+judged-requires : tie.Need-judged-requires
+judged-requires c κs = search needs
 
 returns : tie.Need-returns
-returns c = rw (c .carrying .ensures, c .before .in-at .ensures, c .before .before .status-at .ensures)
+returns c = λ caps. rw (c .judged .ensures, c .before .in-at .ensures, c .before .before .status-at .ensures, c .before .before .before .before .part-of .ensures) (law.buffered-bulk _ _ _ _ _)
 
 pub buffered-bulk-spec : {M : Type 1} → statement M
 buffered-bulk-spec =
-    tie.close (tie.spec status-at-requires in-at-requires carrying-requires returns)
+    tie.close
+    (tie.spec
+    part-of-requires
+    cast-judged
+    status-at-requires
+    in-at-requires
+    judged-requires
+    returns)

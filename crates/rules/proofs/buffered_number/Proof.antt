@@ -1,20 +1,17 @@
--- `rules::buffered_number` meets its contract: the facts are those of the packet (`EachKind`), and `data_number` has its number.
+-- `rules::buffered_number` meets its contract: the number by what its kind's rules find.
 -- Assumes nothing.
-use mathlib.Core.Path.{refl}
-use native.Mathlib.Omega.{arith}
 use borrow.Author.Needs.{needs}
-use Rattle.rules.proofs.EachKind as law
 use Rattle.rules.proofs.buffered_number.Statement.{statement}
 use Rattle.rules.proofs.buffered_number.Tie as tie
 
 buffered-bulk-requires : tie.Need-buffered-bulk-requires
 buffered-bulk-requires c κs = search needs
 
-data-number-requires : tie.Need-data-number-requires
-data-number-requires c κs = rw (c .buffered-bulk .ensures) (refl, omega arith, refl)
+number-by-requires : tie.Need-number-by-requires
+number-by-requires c κs = search needs
 
 returns : tie.Need-returns
-returns c = λ stream. c .data-number .ensures _ (rw (c .before .buffered-bulk .ensures) (law.buffered-bulk _ _ _ _ _ _ _ _ _))
+returns c = c .number-by .ensures _ _ (c .before .buffered-bulk .ensures _)
 
 pub buffered-number-spec : {M : Type 1} → statement M
-buffered-number-spec = tie.close (tie.spec buffered-bulk-requires data-number-requires returns)
+buffered-number-spec = tie.close (tie.spec buffered-bulk-requires number-by-requires returns)

@@ -1,9 +1,6 @@
--- `rules::bulk_number` meets its contract: the facts are those of the packet (`EachKind`), and `data_number` has its number.
+-- `rules::bulk_number` meets its contract: the number by what its kind's rules find.
 -- Assumes nothing.
-use mathlib.Core.Path.{refl}
-use native.Mathlib.Omega.{arith}
 use borrow.Author.Needs.{needs}
-use Rattle.rules.proofs.EachKind as law
 use Rattle.rules.proofs.bulk_number.Statement.{statement}
 use Rattle.rules.proofs.bulk_number.Tie as tie
 
@@ -13,12 +10,12 @@ shared-set-requires c κs = search needs
 bulk-requires : tie.Need-bulk-requires
 bulk-requires c κs = search needs
 
-data-number-requires : tie.Need-data-number-requires
-data-number-requires c κs = rw (c .bulk .ensures) (refl, omega arith, refl)
+number-by-requires : tie.Need-number-by-requires
+number-by-requires c κs = search needs
 
 returns : tie.Need-returns
-returns c = c .data-number .ensures _ (rw (c .before .bulk .ensures, c .before .before .shared-set .ensures) (law.bulk _ _ _ _ _ _ _ _ _))
+returns c = c .number-by .ensures _ _ (rw (c .before .before .shared-set .ensures) at (c .before .bulk .ensures))
 
 pub bulk-number-spec : {M : Type 1} → statement M
 bulk-number-spec =
-    tie.close (tie.spec shared-set-requires bulk-requires data-number-requires returns)
+    tie.close (tie.spec shared-set-requires bulk-requires number-by-requires returns)

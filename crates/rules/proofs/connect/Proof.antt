@@ -1,5 +1,6 @@
--- `rules::connect` meets its contract: each part of the facts is the call's that makes it.
+-- `rules::connect` meets its contract: what its calls give is what the law of its kind has.
 -- Assumes nothing.
+use Rattle.rules.proofs.EachKind as law
 use borrow.Author.Needs.{needs}
 use Rattle.rules.proofs.connect.Statement.{statement}
 use Rattle.rules.proofs.connect.Tie as tie
@@ -16,14 +17,11 @@ zero-id-requires c κs = search needs
 checked-requires : tie.Need-checked-requires
 checked-requires c κs = search needs
 
-choose-requires : tie.Need-choose-requires
-choose-requires c κs = search needs
-
 checked-requires-2 : tie.Need-checked-requires-2
 checked-requires-2 c κs = search needs
 
 returns : tie.Need-returns
-returns c = rw (c .checked2 .ensures, c .before .choose .ensures, c .before .before .checked .ensures, c .before .before .before .zero-id .ensures, c .before .before .before .before .has-bit .ensures, c .before .before .before .before .before .is-given .ensures)
+returns c = λ from body. rw (c .checked2 .ensures, c .before .checked .ensures, c .before .before .zero-id .ensures, c .before .before .before .has-bit .ensures, c .before .before .before .before .is-given .ensures) (law.connect _ _ _ _ _)
 
 pub connect-spec : {M : Type 1} → statement M
 connect-spec =
@@ -33,6 +31,5 @@ connect-spec =
     has-bit-requires
     zero-id-requires
     checked-requires
-    choose-requires
     checked-requires-2
     returns)

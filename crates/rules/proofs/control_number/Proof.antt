@@ -1,20 +1,17 @@
--- `rules::control_number` meets its contract: the facts are those of the packet (`EachKind`), and `data_number` has its number.
+-- `rules::control_number` meets its contract: the number by what its kind's rules find.
 -- Assumes nothing.
-use mathlib.Core.Path.{refl}
-use native.Mathlib.Omega.{arith}
 use borrow.Author.Needs.{needs}
-use Rattle.rules.proofs.EachKind as law
 use Rattle.rules.proofs.control_number.Statement.{statement}
 use Rattle.rules.proofs.control_number.Tie as tie
 
 control-requires : tie.Need-control-requires
 control-requires c κs = search needs
 
-data-number-requires : tie.Need-data-number-requires
-data-number-requires c κs = rw (c .control .ensures) (refl, omega arith, refl)
+number-by-requires : tie.Need-number-by-requires
+number-by-requires c κs = search needs
 
 returns : tie.Need-returns
-returns c = λ request value index. c .data-number .ensures _ (rw (c .before .control .ensures) (law.control _ _ _ _ _ _ _ _ _ _ _ _))
+returns c = c .number-by .ensures _ _ (c .before .control .ensures _)
 
 pub control-number-spec : {M : Type 1} → statement M
-control-number-spec = tie.close (tie.spec control-requires data-number-requires returns)
+control-number-spec = tie.close (tie.spec control-requires number-by-requires returns)

@@ -1,4 +1,4 @@
--- `rules::endpoint_at` meets its contract: the test is `is_address`'s, and the choice `checked`'s.
+-- `rules::endpoint_at` meets its contract: what its calls give, put together.
 -- Assumes nothing.
 use borrow.Author.Needs.{needs}
 use Rattle.rules.proofs.endpoint_at.Statement.{statement}

@@ -1,8 +1,7 @@
--- `rules::endpoints` meets its contract: each part of the facts is the call's that makes it, and the table has at most 96, 64 and 128 bytes, so that their sum does not wrap.
+-- `rules::endpoints` meets its contract: what its calls give is what the law of its kind has.
 -- Assumes nothing.
-use native.Mathlib.Omega.{arith}
+use Rattle.rules.proofs.EachKind as law
 use borrow.Author.Needs.{needs}
-use Rattle.kinds.specs.Slots.{at-most}
 use Rattle.rules.proofs.endpoints.Statement.{statement}
 use Rattle.rules.proofs.endpoints.Tie as tie
 
@@ -24,25 +23,14 @@ checked-requires c κs = search needs
 checked-requires-2 : tie.Need-checked-requires-2
 checked-requires-2 c κs = search needs
 
-choose-requires : tie.Need-choose-requires
-choose-requires c κs = search needs
-
-add-t16 : tie.Need-add-t16
-add-t16 c = omega (arith, c .choose .ensures, at-most (c .before .before .before .before .before .before .before .before .args .packets) 64)
-
-choose-requires-2 : tie.Need-choose-requires-2
-choose-requires-2 c κs = search needs
-
-add-t18 : tie.Need-add-t18
-add-t18 c =
-    let a = c .before .before .before .before .before .before .before .before .before .args in
-    omega (arith, c .choose2 .ensures, c .before .choose .ensures, at-most (a .packets) 64, at-most (a .streams) 128)
+table-size-requires : tie.Need-table-size-requires
+table-size-requires c κs = search needs
 
 type-at-requires : tie.Need-type-at-requires
 type-at-requires c κs = search needs
 
 returns : tie.Need-returns
-returns c = rw (c .type-at .ensures, c .before .choose2 .ensures, c .before .before .choose .ensures, c .before .before .before .checked2 .ensures, c .before .before .before .before .checked .ensures, c .before .before .before .before .before .zero-id .ensures, c .before .before .before .before .before .before .has-bit2 .ensures, c .before .before .before .before .before .before .before .has-bit .ensures, c .before .before .before .before .before .before .before .before .part-of .ensures)
+returns c = λ from. rw (c .type-at .ensures, c .before .table-size .ensures, c .before .before .checked2 .ensures, c .before .before .before .checked .ensures, c .before .before .before .before .zero-id .ensures, c .before .before .before .before .before .has-bit2 .ensures, c .before .before .before .before .before .before .has-bit .ensures, c .before .before .before .before .before .before .before .part-of .ensures) (law.endpoint-table _ _ _ _ _)
 
 pub endpoints-spec : {M : Type 1} → statement M
 endpoints-spec =
@@ -54,9 +42,6 @@ endpoints-spec =
     zero-id-requires
     checked-requires
     checked-requires-2
-    choose-requires
-    add-t16
-    choose-requires-2
-    add-t18
+    table-size-requires
     type-at-requires
     returns)

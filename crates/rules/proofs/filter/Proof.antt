@@ -1,5 +1,6 @@
--- `rules::filter` meets its contract: each part of the facts is the call's that makes it, and a zero's place is within the string, so that one more does not wrap.
+-- `rules::filter` meets its contract: what its calls give is what the law of its kind has.
 -- Assumes nothing.
+use Rattle.rules.proofs.EachKind as law
 use borrow.Author.Needs.{needs}
 use Rattle.rules.proofs.filter.Statement.{statement}
 use Rattle.rules.proofs.filter.Tie as tie
@@ -19,11 +20,11 @@ zero-id-requires c κs = search needs
 checked-requires : tie.Need-checked-requires
 checked-requires c κs = search needs
 
-carrying-requires : tie.Need-carrying-requires
-carrying-requires c κs = search needs
+judged-requires : tie.Need-judged-requires
+judged-requires c κs = search needs
 
 returns : tie.Need-returns
-returns c = rw (c .carrying .ensures, c .before .checked .ensures, c .before .before .zero-id .ensures, c .before .before .before .zero-at .ensures .0, c .before .before .before .before .part-of .ensures)
+returns c = λ from caps. rw (c .judged .ensures, c .before .checked .ensures, c .before .before .zero-id .ensures, c .before .before .before .zero-at .ensures .0, c .before .before .before .before .part-of .ensures) (law.filter _ _ _ _ _)
 
 pub filter-spec : {M : Type 1} → statement M
 filter-spec =
@@ -34,5 +35,5 @@ filter-spec =
     add-checked
     zero-id-requires
     checked-requires
-    carrying-requires
+    judged-requires
     returns)

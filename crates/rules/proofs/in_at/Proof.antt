@@ -1,4 +1,4 @@
--- `rules::in_at` meets its contract: the tests are `is_address`'s and `is_in`'s, and the choice `checked`'s.
+-- `rules::in_at` meets its contract: what its calls give, put together.
 -- Assumes nothing.
 use borrow.Author.Needs.{needs}
 use Rattle.rules.proofs.in_at.Statement.{statement}

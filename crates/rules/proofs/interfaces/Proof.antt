@@ -1,8 +1,12 @@
--- `rules::interfaces` meets its contract: each part of the facts is the call's that makes it.
+-- `rules::interfaces` meets its contract: what its calls give is what the law of its kind has.
 -- Assumes nothing.
+use Rattle.rules.proofs.EachKind as law
 use borrow.Author.Needs.{needs}
 use Rattle.rules.proofs.interfaces.Statement.{statement}
 use Rattle.rules.proofs.interfaces.Tie as tie
+
+part-of-requires : tie.Need-part-of-requires
+part-of-requires c κs = search needs
 
 zero-id-requires : tie.Need-zero-id-requires
 zero-id-requires c κs = search needs
@@ -10,8 +14,12 @@ zero-id-requires c κs = search needs
 checked-requires : tie.Need-checked-requires
 checked-requires c κs = search needs
 
+judged-requires : tie.Need-judged-requires
+judged-requires c κs = search needs
+
 returns : tie.Need-returns
-returns c = rw (c .checked .ensures, c .before .zero-id .ensures)
+returns c = λ from caps. rw (c .judged .ensures, c .before .checked .ensures, c .before .before .zero-id .ensures, c .before .before .before .before .part-of .ensures) (law.interface-table _ _ _ _ _)
 
 pub interfaces-spec : {M : Type 1} → statement M
-interfaces-spec = tie.close (tie.spec zero-id-requires checked-requires returns)
+interfaces-spec =
+    tie.close (tie.spec part-of-requires zero-id-requires checked-requires judged-requires returns)

@@ -1,20 +1,17 @@
--- `rules::interrupt_number` meets its contract: the facts are those of the packet (`EachKind`), and `data_number` has its number.
+-- `rules::interrupt_number` meets its contract: the number by what its kind's rules find.
 -- Assumes nothing.
-use mathlib.Core.Path.{refl}
-use native.Mathlib.Omega.{arith}
 use borrow.Author.Needs.{needs}
-use Rattle.rules.proofs.EachKind as law
 use Rattle.rules.proofs.interrupt_number.Statement.{statement}
 use Rattle.rules.proofs.interrupt_number.Tie as tie
 
 interrupt-requires : tie.Need-interrupt-requires
 interrupt-requires c κs = search needs
 
-data-number-requires : tie.Need-data-number-requires
-data-number-requires c κs = rw (c .interrupt .ensures) (refl, omega arith, refl)
+number-by-requires : tie.Need-number-by-requires
+number-by-requires c κs = search needs
 
 returns : tie.Need-returns
-returns c = c .data-number .ensures _ (rw (c .before .interrupt .ensures) (law.interrupt _ _ _ _ _ _ _ _))
+returns c = c .number-by .ensures _ _ (c .before .interrupt .ensures _)
 
 pub interrupt-number-spec : {M : Type 1} → statement M
-interrupt-number-spec = tie.close (tie.spec interrupt-requires data-number-requires returns)
+interrupt-number-spec = tie.close (tie.spec interrupt-requires number-by-requires returns)

@@ -1,5 +1,6 @@
--- `rules::iso` meets its contract: each part of the facts is the call's that makes it.
+-- `rules::iso` meets its contract: what its calls give is what the law of its kind has.
 -- Assumes nothing.
+use Rattle.rules.proofs.EachKind as law
 use borrow.Author.Needs.{needs}
 use Rattle.rules.proofs.iso.Statement.{statement}
 use Rattle.rules.proofs.iso.Tie as tie
@@ -10,17 +11,23 @@ is-address-requires c κs = search needs
 is-onward-requires : tie.Need-is-onward-requires
 is-onward-requires c κs = search needs
 
+part-of-requires : tie.Need-part-of-requires
+part-of-requires c κs = search needs
+
+cast-judged : tie.Need-cast-judged
+cast-judged c = search needs
+
 status-at-requires : tie.Need-status-at-requires
 status-at-requires c κs = search needs
 
 checked-requires : tie.Need-checked-requires
 checked-requires c κs = search needs
 
-carrying-requires : tie.Need-carrying-requires
-carrying-requires c κs = search needs
+judged-requires : tie.Need-judged-requires
+judged-requires c κs = search needs
 
 returns : tie.Need-returns
-returns c = rw (c .carrying .ensures, c .before .checked .ensures, c .before .before .status-at .ensures, c .before .before .before .is-onward .ensures, c .before .before .before .before .is-address .ensures)
+returns c = λ caps. rw (c .judged .ensures, c .before .checked .ensures, c .before .before .status-at .ensures, c .before .before .before .before .part-of .ensures, c .before .before .before .before .before .is-onward .ensures, c .before .before .before .before .before .before .is-address .ensures) (law.iso _ _ _ _ _)
 
 pub iso-spec : {M : Type 1} → statement M
 iso-spec =
@@ -28,7 +35,9 @@ iso-spec =
     (tie.spec
     is-address-requires
     is-onward-requires
+    part-of-requires
+    cast-judged
     status-at-requires
     checked-requires
-    carrying-requires
+    judged-requires
     returns)

@@ -1,20 +1,17 @@
--- `rules::iso_number` meets its contract: the facts are those of the packet (`EachKind`), and `data_number` has its number.
+-- `rules::iso_number` meets its contract: the number by what its kind's rules find.
 -- Assumes nothing.
-use mathlib.Core.Path.{refl}
-use native.Mathlib.Omega.{arith}
 use borrow.Author.Needs.{needs}
-use Rattle.rules.proofs.EachKind as law
 use Rattle.rules.proofs.iso_number.Statement.{statement}
 use Rattle.rules.proofs.iso_number.Tie as tie
 
 iso-requires : tie.Need-iso-requires
 iso-requires c κs = search needs
 
-data-number-requires : tie.Need-data-number-requires
-data-number-requires c κs = rw (c .iso .ensures) (refl, omega arith, refl)
+number-by-requires : tie.Need-number-by-requires
+number-by-requires c κs = search needs
 
 returns : tie.Need-returns
-returns c = c .data-number .ensures _ (rw (c .before .iso .ensures) (law.iso _ _ _ _ _ _ _ _))
+returns c = c .number-by .ensures _ _ (c .before .iso .ensures _)
 
 pub iso-number-spec : {M : Type 1} → statement M
-iso-number-spec = tie.close (tie.spec iso-requires data-number-requires returns)
+iso-number-spec = tie.close (tie.spec iso-requires number-by-requires returns)

@@ -1,4 +1,4 @@
--- `rules::offers_streams_alone` meets its contract: the word is `get32`'s and its bits `has_bit`'s.
+-- `rules::offers_streams_alone` meets its contract: what its calls give, put together.
 -- Assumes nothing.
 use borrow.Author.Needs.{needs}
 use Rattle.rules.proofs.offers_streams_alone.Statement.{statement}

@@ -1,4 +1,4 @@
--- `rules::status_at` meets its contract: the test is `is_guest`'s, and the choice `checked`'s.
+-- `rules::status_at` meets its contract: what its calls give, put together.
 -- Assumes nothing.
 use borrow.Author.Needs.{needs}
 use Rattle.rules.proofs.status_at.Statement.{statement}

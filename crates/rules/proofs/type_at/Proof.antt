@@ -4,13 +4,13 @@ use mathlib.Core.Path.{_≡_, refl, sym, ap, _∙_}
 use Prim.Native.Nat.{_-_, _≤_}
 use native.Mathlib.Omega.{arith}
 use borrow.Author.Tests.{not-true, not-false}
-use Rattle.rules.specs.Facts.{typeOk, typePlace}
+use Rattle.rules.specs.Findings.{typeOk, typeFault}
 use Rattle.rules.proofs.Turns.{type-more, type-here}
 use Rattle.rules.proofs.type_at.Statement.{statement}
 use Rattle.rules.proofs.type_at.Tie as tie
 
 abbrev Inv-loop : tie.InvT-loop
-Inv-loop rows next i₀ i = (i ≤ 32) × (typePlace rows (32 - i) i next ≡ typePlace rows 32 0 next)
+Inv-loop rows next i₀ i = (i ≤ 32) × (typeFault rows (32 - i) i next ≡ typeFault rows 32 0 next)
 
 abbrev μ-loop : tie.MeasureT-loop
 μ-loop rows next i₀ i = 32 - i
@@ -23,6 +23,9 @@ get8-requires c κs = tt
 
 is-type-requires : tie.Need-is-type-requires Inv-loop μ-loop
 is-type-requires c κs = tt
+
+cast-t7 : tie.Need-cast-t7 Inv-loop μ-loop
+cast-t7 c = omega arith
 
 returns : tie.Need-returns Inv-loop μ-loop
 returns c =
@@ -59,6 +62,7 @@ type-at-spec =
     loop-holds
     get8-requires
     is-type-requires
+    cast-t7
     returns
     add-i
     loop-less

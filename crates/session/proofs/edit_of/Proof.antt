@@ -4,9 +4,9 @@
 use mathlib.Core.Path.{refl, _∙_}
 use mathlib.Core.Bool.{true}
 use borrow.Author.Needs.{needs}
-use Rattle.device.specs.Laws.{closed-nowhere}
-use Rattle.requests.specs.Laws.{released-nowhere}
-use Rattle.session.proofs.Laws.{edit-wide, edit-narrow}
+use Rattle.device.proofs.RowChanges.{closed-nowhere}
+use Rattle.requests.proofs.Places.{released-nowhere}
+use Rattle.session.proofs.HeadsAndEdits.{edit-wide, edit-narrow}
 use Rattle.session.proofs.edit_of.Statement.{statement}
 use Rattle.session.proofs.edit_of.Tie as tie
 

@@ -34,8 +34,8 @@ introduce-requires-2 c κs = search needs
 enum-told-5 : tie.Need-enum-told-5
 enum-told-5 c = search needs
 
-is-shared-requires : tie.Need-is-shared-requires
-is-shared-requires c κs = search needs
+has-shared-bit-requires : tie.Need-has-shared-bit-requires
+has-shared-bit-requires c κs = search needs
 
 with-device-requires-2 : tie.Need-with-device-requires-2
 with-device-requires-2 c κs = search needs
@@ -74,7 +74,7 @@ returns-5 : tie.Need-returns-5
 returns-5 c = rw (c .before .enum-told4 .given .1) (c .introduce2 .ensures)
 
 returns-6 : tie.Need-returns-6
-returns-6 c = rw (c .before .before .enum-told5 .given .1, ← c .before .is-shared .ensures) (c .with-device2 .ensures)
+returns-6 c = rw (c .before .before .enum-told5 .given .1, ← c .before .has-shared-bit .ensures) (c .with-device2 .ensures)
 
 returns-7 : tie.Need-returns-7
 returns-7 c = rw (c .enum-told6 .given .1)
@@ -105,7 +105,7 @@ head-after-spec =
     enum-told-4
     introduce-requires-2
     enum-told-5
-    is-shared-requires
+    has-shared-bit-requires
     with-device-requires-2
     enum-told-6
     enum-told-7

@@ -2,7 +2,7 @@
 -- Assumes nothing.
 use mathlib.Core.Path.{_∙_}
 use borrow.Author.Needs.{needs}
-use Rattle.session.proofs.Laws.{present-kept, absent-introduced}
+use Rattle.session.proofs.HeadsAndEdits.{present-kept, absent-introduced}
 use Rattle.session.proofs.introduce.Statement.{statement}
 use Rattle.session.proofs.introduce.Tie as tie
 

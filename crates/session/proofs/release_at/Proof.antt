@@ -3,7 +3,7 @@
 use mathlib.Core.Path.{sym, _∙_}
 use borrow.Author.Tests.{lt-ltb, le-ltb}
 use borrow.Author.Needs.{needs}
-use Rattle.requests.specs.Laws.{released-nowhere}
+use Rattle.requests.proofs.Places.{released-nowhere}
 use Rattle.session.proofs.release_at.Statement.{statement}
 use Rattle.session.proofs.release_at.Tie as tie
 

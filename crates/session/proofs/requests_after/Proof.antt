@@ -37,14 +37,14 @@ enum-told-8 c = search needs
 enum-known-c : tie.Need-enum-known-c
 enum-known-c c = search needs
 
-take-at-requires : tie.Need-take-at-requires
-take-at-requires c κs = search needs
+take-requires : tie.Need-take-requires
+take-requires c κs = search needs
 
 enum-known-c-2 : tie.Need-enum-known-c-2
 enum-known-c-2 c = search needs
 
-take-at-requires-2 : tie.Need-take-at-requires-2
-take-at-requires-2 c κs = search needs
+take-requires-2 : tie.Need-take-requires-2
+take-requires-2 c κs = search needs
 
 enum-known-c-3 : tie.Need-enum-known-c-3
 enum-known-c-3 c = search needs
@@ -77,10 +77,10 @@ returns-8 : tie.Need-returns-8
 returns-8 c = search needs
 
 returns-9 : tie.Need-returns-9
-returns-9 c = rw (c .before .before .c .given .1) (c .take-at .ensures)
+returns-9 c = rw (c .before .before .c .given .1) (c .take .ensures)
 
 returns-10 : tie.Need-returns-10
-returns-10 c = rw (c .before .before .c2 .given .1) (c .take-at2 .ensures)
+returns-10 c = rw (c .before .before .c2 .given .1) (c .take2 .ensures)
 
 returns-11 : tie.Need-returns-11
 returns-11 c = rw (c .before .before .c3 .given .1) (c .release-at .ensures)
@@ -100,9 +100,9 @@ requests-after-spec =
     clear-requires-2
     enum-told-8
     enum-known-c
-    take-at-requires
+    take-requires
     enum-known-c-2
-    take-at-requires-2
+    take-requires-2
     enum-known-c-3
     release-at-requires
     returns

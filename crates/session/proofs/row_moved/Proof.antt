@@ -1,7 +1,7 @@
 -- `session::row_moved` meets its contract: of an endpoint the row is the one that `stream_row` finds, and the stream is stored there (`stream-by-row`).
 -- Assumes nothing.
 use borrow.Author.Needs.{needs}
-use Rattle.device.specs.Laws.{stream-by-row}
+use Rattle.device.proofs.RowChanges.{stream-by-row}
 use Rattle.session.proofs.row_moved.Statement.{statement}
 use Rattle.session.proofs.row_moved.Tie as tie
 

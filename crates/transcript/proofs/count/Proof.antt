@@ -1,7 +1,7 @@
 -- `transcript::count` meets its contract: 0 counts as passed, and any other number as refused.
 -- Assumes nothing.
 use borrow.Author.Needs.{needs}
-use Rattle.transcript.proofs.Laws.{count-passed, count-refused}
+use Rattle.transcript.proofs.CallLines.{count-passed, count-refused}
 use Rattle.transcript.proofs.count.Statement.{statement}
 use Rattle.transcript.proofs.count.Tie as tie
 

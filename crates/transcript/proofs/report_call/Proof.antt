@@ -5,7 +5,7 @@ use Prim.Native.Nat.{_≤_}
 use borrow.Author.Needs.{needs}
 use borrow.Author.Tests.{not-true, not-false}
 use Rattle.capture.specs.Lines.{largest}
-use Rattle.transcript.proofs.Laws.{call-no-line, call-told}
+use Rattle.transcript.proofs.CallLines.{call-no-line, call-told}
 use Rattle.transcript.proofs.report_call.Statement.{statement}
 use Rattle.transcript.proofs.report_call.Tie as tie
 

@@ -15,6 +15,9 @@ pub const IDS_OF_64_BITS: u32 = 1 << 5;
 pub const BULK_LENGTH_OF_32_BITS: u32 = 1 << 6;
 pub const BULK_RECEIVING: u32 = 1 << 7;
 
+/// They are the low byte of a word. "Other bits and words are ignored."
+const BITS: u32 = 0xff;
+
 // The types of endpoints.
 pub const CONTROL: u8 = 0;
 pub const ISO: u8 = 1;
@@ -53,7 +56,7 @@ impl Hellos {
     /// "Shared set: bits set in both hellos' first capability word." Nothing before both have passed.
     pub fn shared(&self) -> u32 {
         match (self.guest, self.host) {
-            (Some(guest), Some(host)) => guest & host,
+            (Some(guest), Some(host)) => guest & host & BITS,
             _ => 0,
         }
     }

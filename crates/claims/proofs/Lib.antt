@@ -1,0 +1,11 @@
+pub mod Grounds
+pub mod Allowed
+pub mod OnePacket
+pub mod KeptByPacket
+pub mod Exchange
+pub mod NumberByKind
+pub mod Movements
+pub mod PacketLists
+pub mod TestsInWords
+pub mod FitBorders
+pub mod Examples

@@ -1,4 +1,0 @@
-pub mod Drive
-pub mod Steps
-pub mod Records
-pub mod Laws

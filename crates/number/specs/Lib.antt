@@ -1,4 +1,0 @@
-pub mod Little
-pub mod Bits
-pub mod Laws
-pub mod Logic

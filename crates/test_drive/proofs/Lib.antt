@@ -1,0 +1,4 @@
+pub mod RecordBytes
+pub mod ScriptRuns
+mod Records
+mod Columns
