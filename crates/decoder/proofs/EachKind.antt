@@ -306,17 +306,22 @@ interface-table caps body f =
       rest = refl;
     }
 
-pub endpoint-table : (caps : ℕ) (body : List ℕ) → Fits caps 5 body
-    → ReadsBody caps 5 body (EndpointTable (record { rows = record { start = 0; end = size (shared caps) (kindAt 5 .fields) }; maxpacket = hasBit caps 4; maxstreams = hasBit caps 4 && hasBit caps 0 }))
+abbrev endpointsTo : ℕ → ℕ → Packet
+endpointsTo caps end = EndpointTable (record { rows = record { start = 0; end = end }; maxpacket = hasBit caps 4; maxstreams = hasBit caps 4 && hasBit caps 0 })
+
+endpoints-whole : (caps : ℕ) (body : List ℕ) → length body ≡ size (shared caps) (kindAt 5 .fields) → ReadsBody caps 5 body (endpointsTo caps (size (shared caps) (kindAt 5 .fields)))
 unfolding kinds layout contentOf contentAt
-endpoint-table caps body f =
+endpoints-whole caps body e =
     let n : ℕ = size (shared caps) (kindAt 5 .fields) in
-    let e : length body ≡ n = f .exact refl in
     record {
       content = λ id i. record { kind = 5; id = id; fields = split (shared caps) (kindAt 5 .fields) (rows-all n body e i); rest = sym (none-left body n e) i };
       rows = refl;
       rest = refl;
     }
+
+pub endpoint-table : (caps : ℕ) (body : List ℕ) → Fits caps 5 body → ReadsBody caps 5 body (endpointsTo caps (length body))
+unfolding kinds
+endpoint-table caps body f = subst (λ (n : ℕ). ReadsBody caps 5 body (endpointsTo caps n)) (sym (f .exact refl)) (endpoints-whole caps body (f .exact refl))
 
 -- ---- a reading by a slot that is known
 

@@ -127,7 +127,7 @@ fn read_body(caps: u32, slot: usize, body: &[u8]) -> Packet
             let packets = has_bit(caps, 4);
             let streams = packets & has_bit(caps, 0);
             Packet::EndpointTable(EndpointTable {
-                rows: part_at(0, fields_size(5, caps)),
+                rows: after(body, 0),
                 maxpacket: packets,
                 maxstreams: streams,
             })

@@ -166,13 +166,7 @@ fn type_at(rows: &[u8], next: Fault) -> Fault
 fn plain(slot: usize, fault: Fault) -> Findings
     ensures { λ r. ⌜ r ≡ findings slot false true fault false ⌝ }
 {
-    Findings {
-        slot,
-        surplus: false,
-        sized: true,
-        fault,
-        alone: false,
-    }
+    judged(slot, true, fault)
 }
 
 // A kind whose size is judged.

@@ -51,12 +51,6 @@ has-bit-requires-2 c κs = search needs
 has-bit-requires-3 : tie.Need-has-bit-requires-3
 has-bit-requires-3 c κs = search needs
 
-fields-size-requires : tie.Need-fields-size-requires
-fields-size-requires c κs = search needs
-
-part-at-requires-3 : tie.Need-part-at-requires-3
-part-at-requires-3 c κs = search needs
-
 get8-requires-5 : tie.Need-get8-requires-5
 get8-requires-5 c κs = search needs
 
@@ -135,6 +129,9 @@ get8-requires-24 c κs = search needs
 after-requires-2 : tie.Need-after-requires-2
 after-requires-2 c κs = search needs
 
+after-requires-3 : tie.Need-after-requires-3
+after-requires-3 c κs = search needs
+
 get32-requires-7 : tie.Need-get32-requires-7
 get32-requires-7 c κs = search needs
 
@@ -178,7 +175,7 @@ returns-5 : tie.Need-returns-5
 returns-5 c = reads-by (interface-table _ _) (c .before .before .before .before .pre) (c .before .before .match .keys5) (rw (c .part-at2 .ensures, c .before .get32 .ensures))
 
 returns-6 : tie.Need-returns-6
-returns-6 c = reads-by (endpoint-table _ _) (c .before .before .before .before .before .before .pre) (c .before .before .before .before .match .keys6) (rw (c .part-at3 .ensures, c .before .fields-size .ensures, c .before .before .has-bit3 .ensures, c .before .before .before .has-bit2 .ensures))
+returns-6 c = reads-by (endpoint-table _ _) (c .before .before .before .before .before .pre) (c .before .before .before .match .keys6) (rw (c .after2 .ensures, c .before .has-bit3 .ensures, c .before .before .has-bit2 .ensures))
 
 returns-7 : tie.Need-returns-7
 returns-7 c = reads-by (set-configuration _ _) (c .before .before .before .pre) (c .before .match .keys7) (rw (c .get85 .ensures))
@@ -232,7 +229,7 @@ returns-23 : tie.Need-returns-23
 returns-23 c = reads-by (filter-reject _ _) (c .before .before .pre) (c .match .keys23) refl
 
 returns-24 : tie.Need-returns-24
-returns-24 c = reads-by (filter _ _) (c .before .before .before .pre) (c .before .match .keys24) (rw (c .after2 .ensures))
+returns-24 c = reads-by (filter _ _) (c .before .before .before .pre) (c .before .match .keys24) (rw (c .after3 .ensures))
 
 returns-25 : tie.Need-returns-25
 returns-25 c = reads-by (disconnect-ack _ _) (c .before .before .pre) (c .match .keys25) refl
@@ -265,8 +262,7 @@ read-body-spec =
     part-at-requires-2
     has-bit-requires-2
     has-bit-requires-3
-    fields-size-requires
-    part-at-requires-3
+    after-requires-2
     get8-requires-5
     get8-requires-6
     get8-requires-7
@@ -292,7 +288,7 @@ read-body-spec =
     get32-requires-5
     get32-requires-6
     get8-requires-24
-    after-requires-2
+    after-requires-3
     get32-requires-7
     get32-requires-8
     get8-requires-25
