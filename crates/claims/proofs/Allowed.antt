@@ -1,99 +1,71 @@
--- The judge passes a packet exactly when it is allowed (`allowed-exactly`).
--- Each check fails exactly where the relation of the same sentence holds; the number is 0 exactly where every check fails.
+-- The judge passes a packet exactly when it is allowed (`allowed-exactly`), and gives each other number exactly where its check is the first that fails
+-- (`number-in-words`): a check of `checksBy` fails exactly where its relation holds.
 -- Assumes nothing.
 use Prim.Native.Nat.{ℕ, _≤_, _<_}
-use mathlib.Core.Bool.{Bool, true, false, cond, not, _&&_, _||_, false≢true, true≢false}
-use mathlib.Core.List.{[], _∷_}
+use mathlib.Core.Bool.{Bool, true, false, not, _&&_, _||_, true≢false, false≢true}
+use mathlib.Core.List.{List, [], _∷_}
+use mathlib.Core.Logic.{_↔_, _⊎_, inl, inr}
 use mathlib.Core.Option.{Option, none, some, Option·none-ne-some}
 use mathlib.Core.Path.{_≡_, refl, sym, ap, subst, _∙_}
-use mathlib.Core.Logic.{_⊎_, _↔_, inl, inr}
+use lib.ListN.{length}
 use lib.Dec.{eqb, leb}
-use borrow.Author.Tests.{eqb-true, eq-eqb, ne-eqb, leb-true, le-leb, le-ltb, ltb-false, not-true, not-false}
+use borrow.Author.Tests.{eqb-true, eqb-false, eq-eqb, ne-eqb, leb-true, le-leb, le-ltb, ltb-false, not-true, not-false}
 use borrow.Table.Steps.{cases}
-use Rattle.octets.specs.Bits.{hasBit}
-use Rattle.octets.proofs.Logic.{and-parts, and-whole, failing, or-none, false-not, fails, implied, implying, or-parts, true-not}
+use Rattle.octets.proofs.Logic.{and-parts, and-whole, fails, failing, implied, implying, or-parts, or-none, false-not, true-not}
+use Rattle.scan.proofs.Searches.{first-found, first-absent}
 use Rattle.header.specs.declared.Side.{Side}
 use Rattle.header.specs.declared.Side.the-variants.{Guest, Host}
-use Rattle.device.specs.declared.Head.{Head}
-use Rattle.device.specs.Device.{bulk, rowAt, stateAt}
-use Rattle.device.specs.declared.Introduction.the-variants.{Unintroduced, Two, One}
-use Rattle.device.specs.declared.Rows.{Rows}
-use Rattle.device.specs.declared.Introduction.{Introduction}
-use Rattle.device.proofs.RowChanges.{mask-absent, mask-none}
-use Rattle.requests.specs.declared.Request.{Request}
-use Rattle.requests.specs.declared.Requests.{Requests}
-use Rattle.requests.specs.Requests.{answers, placeAt, lowest, isSome, Query, Free, Id, Settling, Answered, idsDiffer, meets}
-use Rattle.requests.proofs.Places.{differ-when, lowest-found, lowest-some, lowest-none}
 use Rattle.header.specs.Link.{isGuest}
-use Rattle.kinds.specs.Table.{Kind, kinds}
-use Rattle.kinds.specs.Content.{Content, find}
-use Rattle.kinds.specs.Number.{sends}
-use Rattle.kinds.proofs.RoundTrip.{clean}
-use Rattle.events.specs.declared.Typed.{Typed}
-use Rattle.events.specs.declared.Typed.the-variants.{Untyped}
-use Rattle.events.specs.Event.{Event, field, eventOf, isTransfer}
-use Rattle.checks.specs.Checks.{traitsOf, outOfOrder, isBegun, isDone, matchOf, numberFor, Matched, mistypedBy, isOpen, matchIn, isUnsolicited, noSuchRequest, numberOf, Match, Unmatched, streamClosed, settling, tooLong, noDevice, ackOwed, wrongType, idInUse, isFull}
+use Rattle.kinds.specs.Content.{Content}
+use Rattle.kinds.specs.Number.{wireNumber}
+use Rattle.device.specs.declared.Introduction.{Introduction}
+use Rattle.device.specs.declared.Introduction.the-variants.{Unintroduced, Two, One}
+use Rattle.device.specs.Device.{bulk, stateAt}
+use Rattle.device.proofs.RowChanges.{mask-absent, mask-none}
+use Rattle.requests.specs.declared.Requests.{Requests}
+use Rattle.requests.specs.Requests.{Place, placesOf, freePlace, placeAt, lowest, isSome, Query, Free, Id, Settling, meets, idsDiffer}
+use Rattle.requests.proofs.Places.{differ-when, places-length, places-at, lowest-found, lowest-some, lowest-none}
+use Rattle.events.specs.Event.{field, eventOf}
+use Rattle.checks.specs.Checks.{isBegun, isDone, mistypedBy, Check, _when_, firstOf}
 use Rattle.session.specs.declared.Session.{Session}
 use Rattle.session.specs.Session.{linkOf}
 use Rattle.session.specs.Step.{judged}
-use Rattle.claims.specs.Allowed.{among, isRequest, isReply, oneOf, answersKind, carriesTarget, wants, comesOnStream, endpointNamed, inwardOf, replyTarget, countOf, AnsweredBy, Unsolicited, Allowed, AllowedExactly}
-use Rattle.claims.specs.NumberByKind.{disordered, rowBy, typedBy, answersBy}
-use Rattle.claims.specs.Grounds.{groundsOf, groundsBy}
-use Rattle.claims.proofs.Grounds.{agrees}
+use Rattle.claims.specs.Allowed.{among, isRequest, isReply, answersKind, carriesTarget, wants, comesOnStream, endpointNamed, inwardOf, replyTarget, countOf, AnsweredBy, Unsolicited, HasDevice, NoneOwed, Introduced, RightType, NoneSettling, StreamOpen, UnusedId, HasRoom, WasAsked, NotLonger, Allowed, SessionNumbered, AllowedExactly, NumberInWords}
+use Rattle.claims.specs.NumberByKind.{disordered, rowBy, typedBy, answersBy, answeredAt, longerThan, checksBy}
+use Rattle.claims.proofs.EventChecks.{one-of-two}
+use Rattle.claims.proofs.NumberByKind.{number-by}
 
--- ---- the number is 0 exactly where no check holds
+-- ---- the first check of a list that does not fail
 
-pub record NoneHolds (h : Head) (rows : Rows) (t : Requests) (e : Event) (m : Match) : Type 0 where
-  pub device : noDevice h e ≡ false
-  pub ack : ackOwed h e ≡ false
-  pub order : outOfOrder h (e .class) ≡ false
-  pub type : wrongType rows e ≡ false
-  pub settled : settling t e ≡ false
-  pub stream : streamClosed rows e ≡ false
-  pub unused : idInUse t e ≡ false
-  pub room : isFull t e ≡ false
-  pub matched : noSuchRequest e m ≡ false
-  pub short : tooLong e m ≡ false
+-- no check has that number, nor is it 0
+abbrev apart : ℕ → List Check → Bool
+apart m [] = not (eqb 0 m)
+apart m (c ∷ cs) = not (eqb (c .number) m) && apart m cs
 
--- a check that comes first does not hold, nor any after it
-first-fails : (n : ℕ) (b : Bool) (rest : ℕ) → eqb n 0 ≡ false → cond b n rest ≡ 0 → (b ≡ false) × (rest ≡ 0)
-first-fails n true rest h e = absurd (false≢true (sym h ∙ eq-eqb n 0 e))
-first-fails n false rest h e = (refl, e)
+apart-from : (m : ℕ) (cs : List Check) → apart m cs ≡ true → firstOf cs ≡ m → ⊥
+apart-from m [] h e = eqb-false 0 m (not-true (eqb 0 m) h) e
+apart-from m (c ∷ cs) h e =
+    let q = and-parts (not (eqb (c .number) m)) (apart m cs) h in
+    cases (c .holds)
+    (λ t. let f : c .number ≡ m = sym (rw t refl) ∙ e in eqb-false (c .number) m (not-true (eqb (c .number) m) (q .0)) f)
+    (λ t. let f : firstOf cs ≡ m = sym (rw t refl) ∙ e in apart-from m cs (q .1) f)
 
-skip : (n : ℕ) (b : Bool) (rest : ℕ) → b ≡ false → rest ≡ 0 → cond b n rest ≡ 0
-skip n true rest e f = absurd (true≢false e)
-skip n false rest e f = f
+-- its number, where it is the first of a list; and one further on
+own : (c : Check) (cs : List Check) {A : Type 0} → ((c .holds ≡ false) ↔ A) → apart (c .number) cs ≡ true → (firstOf (c ∷ cs) ≡ c .number) ↔ (A → ⊥)
+own c cs i h = (
+  (λ e a. let f : firstOf cs ≡ c .number = sym (rw (i .1 a) refl) ∙ e in apart-from (c .number) cs h f),
+  (λ z. cases (c .holds) (λ t. rw t refl) (λ t. absurd (z (i .0 t)))),
+)
 
-pub no-check-holds : (h : Head) (rows : Rows) (t : Requests) (e : Event) (m : Match) → numberFor h rows t e m ≡ 0 → NoneHolds h rows t e m
-unfolding numberFor
-no-check-holds h rows t e m z =
-    let a = first-fails 25 _ _ refl z in
-    let b = first-fails 27 _ _ refl (a .1) in
-    let c = first-fails 26 _ _ refl (b .1) in
-    let f = first-fails 28 _ _ refl (c .1) in
-    let g = first-fails 29 _ _ refl (f .1) in
-    let i = first-fails 30 _ _ refl (g .1) in
-    let j = first-fails 31 _ _ refl (i .1) in
-    let k = first-fails 32 _ _ refl (j .1) in
-    let l = first-fails 33 _ _ refl (k .1) in
-    let o = first-fails 34 _ _ refl (l .1) in
-    record { device = a .0; ack = b .0; order = c .0; type = f .0; settled = g .0; stream = i .0; unused = j .0; room = k .0; matched = l .0; short = o .0 }
+later : (c : Check) (cs : List Check) (k : ℕ) {A B : Type 0} → ((c .holds ≡ false) ↔ A) → eqb (c .number) k ≡ false → ((firstOf cs ≡ k) ↔ B) → (firstOf (c ∷ cs) ≡ k) ↔ (A × B)
+later c cs k i h j = (
+  (λ e. cases (c .holds)
+      (λ t. let f : c .number ≡ k = sym (rw t refl) ∙ e in absurd (eqb-false (c .number) k h f))
+      (λ t. let f : firstOf cs ≡ k = sym (rw t refl) ∙ e in (i .0 t, j .0 f))),
+  (λ q. let f : firstOf (c ∷ cs) ≡ firstOf cs = rw (i .1 (q .0)) refl in f ∙ j .1 (q .1)),
+)
 
-pub holds-none : (h : Head) (rows : Rows) (t : Requests) (e : Event) (m : Match) → NoneHolds h rows t e m → numberFor h rows t e m ≡ 0
-unfolding numberFor
-holds-none h rows t e m q =
-    skip 25 _ _ (q .device)
-    (skip 27 _ _ (q .ack)
-    (skip 26 _ _ (q .order)
-    (skip 28 _ _ (q .type)
-    (skip 29 _ _ (q .settled)
-    (skip 30 _ _ (q .stream)
-    (skip 31 _ _ (q .unused)
-    (skip 32 _ _ (q .room)
-    (skip 33 _ _ (q .matched)
-    (skip 34 _ _ (q .short) refl)))))))))
-
--- ---- what a search says of the places
+-- ---- searches
 
 module _ (t : Requests) (q : Query) where
   none-when : isSome (lowest t q) ≡ false → (i : ℕ) → i < 96 → meets q (placeAt t i) ≡ false
@@ -109,17 +81,7 @@ module _ (t : Requests) (q : Query) where
       go none e f = absurd (false≢true f)
       go (some i) e f = let r = lowest-found t q i e in (i, r .0, r .1)
 
-  pub at-some : (i : ℕ) → i < 96 → meets q (placeAt t i) ≡ true → isSome (lowest t q) ≡ true
-  at-some i l e = cases (isSome (lowest t q)) (λ h. h) (λ h. absurd (true≢false (sym e ∙ none-when h i l)))
-
--- ---- kinds
-
--- a kind of a list of two is the one or the other
-one-of-two : (m n k : ℕ) → among (m ∷ n ∷ []) k ≡ true → (k ≡ m) ⊎ (k ≡ n)
-one-of-two m n k h = cases (eqb k m) (λ e. inl (eqb-true k m e)) (λ e. inr (other e))
-  where
-    other : eqb k m ≡ false → k ≡ n
-    other e = cases (eqb k n) (λ f. eqb-true k n f) (λ f. absurd (false≢true (sym (or-none (eqb k m) (eqb k n || false) e (or-none (eqb k n) false f refl)) ∙ h)))
+-- ---- kinds and introductions
 
 -- a mask's kind wants no type of an endpoint
 mask-wants : (from : Side) (kind : ℕ) (inward : Bool) → among (18 ∷ 19 ∷ []) kind ≡ true → wants from kind inward ≡ none
@@ -134,25 +96,6 @@ mask-wants from kind inward h = go from (one-of-two 18 19 kind h)
     go Host (inl e) = at Host 18 e refl
     go Host (inr e) = at Host 19 e refl
 
--- what comes on a stream wants a type of its endpoint
-stream-wants : (from : Side) (kind : ℕ) (inward : Bool) → comesOnStream from kind inward ≡ true → (k : ℕ) × (wants from kind inward ≡ some k)
-stream-wants from kind inward h = cases (among (102 ∷ 104 ∷ []) kind) (λ e. listed from (one-of-two 102 104 kind e)) (λ e. interrupt-in from inward e h)
-  where
-    at : (from : Side) (inward : Bool) (n k : ℕ) → kind ≡ n → wants from n inward ≡ some k → (k : ℕ) × (wants from kind inward ≡ some k)
-    at from inward n k e f = (k, ap (λ (m : ℕ). wants from m inward) e ∙ f)
-
-    listed : (from : Side) → (kind ≡ 102) ⊎ (kind ≡ 104) → (k : ℕ) × (wants from kind inward ≡ some k)
-    listed from (inl e) = at from inward 102 1 e refl
-    listed Guest (inr e) = at Guest inward 104 2 e refl
-    listed Host (inr e) = at Host inward 104 2 e refl
-
-    interrupt-in : (from : Side) (inward : Bool) → among (102 ∷ 104 ∷ []) kind ≡ false → comesOnStream from kind inward ≡ true → (k : ℕ) × (wants from kind inward ≡ some k)
-    interrupt-in Guest inward e f = absurd (false≢true (sym (or-none (among (102 ∷ 104 ∷ []) kind) false e refl) ∙ f))
-    interrupt-in Host false e f = absurd (false≢true (sym (or-none (among (102 ∷ 104 ∷ []) kind) (eqb kind 103 && false) e (failing (eqb kind 103) false (λ z. refl))) ∙ f))
-    interrupt-in Host true e f = cases (eqb kind 103) (λ g. at Host true 103 3 (eqb-true kind 103 g) refl) (λ g. absurd (false≢true (sym (or-none (among (102 ∷ 104 ∷ []) kind) (eqb kind 103 && true) e (failing (eqb kind 103) true (λ z. absurd (false≢true (sym g ∙ z))))) ∙ f)))
-
--- ---- introductions
-
 done : (i : Introduction) → isDone i ≡ true → i ≡ Two
 done Unintroduced e = absurd (false≢true e)
 done One e = absurd (false≢true e)
@@ -163,332 +106,328 @@ begun-when Unintroduced f = absurd (f refl)
 begun-when One f = refl
 begun-when Two f = refl
 
--- ---- rows
+-- ---- each check and its relation
 
--- a type is asked for only where the class is typed
-typed-is : (rows : Rows) (b : Bool) (t : Typed) → (b && mistypedBy rows t) ≡ mistypedBy rows (cond b t Untyped)
-typed-is rows true t = refl
-typed-is rows false t = refl
-
-open-is : (rows : Rows) (b : Bool) (t : Typed) → (b && not (isOpen rows t)) ≡ (b && not (isOpen rows (cond b t Untyped)))
-open-is rows true t = refl
-open-is rows false t = refl
-
--- ---- each check and its relation, for a packet whose event the lists describe
-
-module _ (s : Session) (from : Side) (p : Content) (a : groundsOf (eventOf from p) ≡ groundsBy from p) where
-  abbrev pub head : Head
-  head = s .head
-
-  abbrev pub rows : Rows
-  rows = s .rows
-
-  abbrev pub t : Requests
+module _ (s : Session) (from : Side) (p : Content) where
+  abbrev t : Requests
   t = s .requests
 
-  abbrev pub e : Event
-  e = eventOf from p
+  abbrev present : Bool
+  present = s .head .present
 
-  -- 25
-  device-to : noDevice head e ≡ false → among (0 ∷ 1 ∷ 4 ∷ 5 ∷ 22 ∷ 23 ∷ 24 ∷ []) (p .kind) ≡ false → head .present ≡ true
-  device-to h n = not-false (head .present) (fails (traitsOf (e .class) .device) (not (head .present)) h ((λ i. a i .device) ∙ true-not _ n))
+  abbrev owed : Bool
+  owed = s .head .owed
 
-  device-from : (among (0 ∷ 1 ∷ 4 ∷ 5 ∷ 22 ∷ 23 ∷ 24 ∷ []) (p .kind) ≡ false → head .present ≡ true) → noDevice head e ≡ false
-  device-from f = failing (traitsOf (e .class) .device) (not (head .present)) (λ h. false-not (head .present) (f (not-true _ (sym (λ i. a i .device) ∙ h))))
+  abbrev stage : Introduction
+  stage = s .head .introduction
 
-  -- 27
-  ack-to : ackOwed head e ≡ false → among (1 ∷ 4 ∷ 5 ∷ []) (p .kind) ≡ true → head .owed ≡ false
-  ack-to h n = fails (traitsOf (e .class) .introduces) (head .owed) h ((λ i. a i .introduces) ∙ n)
+  abbrev without : Bool
+  without = among (0 ∷ 1 ∷ 4 ∷ 5 ∷ 22 ∷ 23 ∷ 24 ∷ []) (p .kind)
 
-  ack-from : (among (1 ∷ 4 ∷ 5 ∷ []) (p .kind) ≡ true → head .owed ≡ false) → ackOwed head e ≡ false
-  ack-from f = failing (traitsOf (e .class) .introduces) (head .owed) (λ h. f (sym (λ i. a i .introduces) ∙ h))
+  pub device-is : ((not without && not present) ≡ false) ↔ HasDevice s from p
+  device-is = (
+    (λ h n. not-false present (fails (not without) (not present) h (true-not without n))),
+    (λ f. failing (not without) (not present) (λ h. false-not present (f (not-true without h)))),
+  )
 
-  -- 26
-  pub order-is : outOfOrder head (e .class) ≡ disordered (p .kind) head
-  order-is i = a i .order head
+  pub ack-is : ((among (1 ∷ 4 ∷ 5 ∷ []) (p .kind) && owed) ≡ false) ↔ NoneOwed s from p
+  ack-is = ((λ h n. fails (among (1 ∷ 4 ∷ 5 ∷ []) (p .kind)) owed h n), (λ f. failing (among (1 ∷ 4 ∷ 5 ∷ []) (p .kind)) owed f))
 
-  order-at : (n : ℕ) → outOfOrder head (e .class) ≡ false → p .kind ≡ n → disordered n head ≡ false
-  order-at n h k = sym (ap (λ (m : ℕ). disordered m head) k) ∙ sym order-is ∙ h
+  order-at : (n : ℕ) → disordered (p .kind) (s .head) ≡ false → p .kind ≡ n → disordered n (s .head) ≡ false
+  order-at n h k = sym (ap (λ (m : ℕ). disordered m (s .head)) k) ∙ h
 
-  connect-to : outOfOrder head (e .class) ≡ false → p .kind ≡ 1 → (head .present ≡ false) × (head .introduction ≡ Two)
-  connect-to h k =
-      let r = or-parts (head .present) (not (isDone (head .introduction))) (order-at 1 h k) in
-      (r .0, done (head .introduction) (not-false (isDone (head .introduction)) (r .1)))
+  introduced : disordered (p .kind) (s .head) ≡ false → Introduced s from p
+  introduced h =
+      record {
+        connect = λ k. let r = or-parts present (not (isDone stage)) (order-at 1 h k) in (r .0, done stage (not-false (isDone stage) (r .1)));
+        interfaces = λ k n i.
+            let r : isBegun stage ≡ true = not-false (isBegun stage) (fails (not present) (not (isBegun stage)) (order-at 4 h k) (true-not present n)) in
+            false≢true (sym (ap isBegun i) ∙ r);
+        acknowledgement = λ k. not-false owed (order-at 24 h k);
+      }
 
-  interfaces-to : outOfOrder head (e .class) ≡ false → p .kind ≡ 4 → head .present ≡ false → head .introduction ≡ Unintroduced → ⊥
-  interfaces-to h k n i =
-      let r : isBegun (head .introduction) ≡ true = not-false (isBegun (head .introduction)) (fails (not (head .present)) (not (isBegun (head .introduction))) (order-at 4 h k) (true-not (head .present) n)) in
-      false≢true (sym (ap isBegun i) ∙ r)
-
-  acknowledgement-to : outOfOrder head (e .class) ≡ false → p .kind ≡ 24 → head .owed ≡ true
-  acknowledgement-to h k = not-false (head .owed) (order-at 24 h k)
-
-  order-from : (p .kind ≡ 1 → (head .present ≡ false) × (head .introduction ≡ Two)) → (p .kind ≡ 4 → head .present ≡ false → head .introduction ≡ Unintroduced → ⊥) → (p .kind ≡ 24 → head .owed ≡ true) → outOfOrder head (e .class) ≡ false
-  order-from f g h = order-is ∙ cases (eqb (p .kind) 1) first (λ x. cases (eqb (p .kind) 4) (second x) (λ y. cases (eqb (p .kind) 24) (third x y) (λ z. rw (x, y, z))))
+  introducing : Introduced s from p → disordered (p .kind) (s .head) ≡ false
+  introducing i = cases (eqb (p .kind) 1) first (λ x. cases (eqb (p .kind) 4) (second x) (λ y. cases (eqb (p .kind) 24) (third x y) (λ z. rw (x, y, z))))
     where
-      first : eqb (p .kind) 1 ≡ true → disordered (p .kind) head ≡ false
-      first x =
-          let r = f (eqb-true (p .kind) 1 x) in
-          rw x (or-none (head .present) (not (isDone (head .introduction))) (r .0) (false-not (isDone (head .introduction)) (ap isDone (r .1))))
+      first : eqb (p .kind) 1 ≡ true → disordered (p .kind) (s .head) ≡ false
+      first x = let r = i .connect (eqb-true (p .kind) 1 x) in rw x (or-none present (not (isDone stage)) (r .0) (false-not (isDone stage) (ap isDone (r .1))))
 
-      second : eqb (p .kind) 1 ≡ false → eqb (p .kind) 4 ≡ true → disordered (p .kind) head ≡ false
+      second : eqb (p .kind) 1 ≡ false → eqb (p .kind) 4 ≡ true → disordered (p .kind) (s .head) ≡ false
       second x y =
-          rw (x, y) (failing (not (head .present)) (not (isBegun (head .introduction))) (λ n. false-not (isBegun (head .introduction)) (begun-when (head .introduction) (g (eqb-true (p .kind) 4 y) (not-true (head .present) n)))))
+          rw (x, y) (failing (not present) (not (isBegun stage)) (λ n. false-not (isBegun stage) (begun-when stage (i .interfaces (eqb-true (p .kind) 4 y) (not-true present n)))))
 
-      third : eqb (p .kind) 1 ≡ false → eqb (p .kind) 4 ≡ false → eqb (p .kind) 24 ≡ true → disordered (p .kind) head ≡ false
-      third x y z = rw (x, y, z) (false-not (head .owed) (h (eqb-true (p .kind) 24 z)))
+      third : eqb (p .kind) 1 ≡ false → eqb (p .kind) 4 ≡ false → eqb (p .kind) 24 ≡ true → disordered (p .kind) (s .head) ≡ false
+      third x y z = rw (x, y, z) (false-not owed (i .acknowledgement (eqb-true (p .kind) 24 z)))
 
-  -- 28
-  pub types-are : wrongType rows e ≡ mistypedBy rows (typedBy from p)
-  types-are = typed-is rows (traitsOf (e .class) .typed) (e .typed) ∙ (λ i. mistypedBy rows (a i .typed))
+  pub order-is : (disordered (p .kind) (s .head) ≡ false) ↔ Introduced s from p
+  order-is = (introduced, introducing)
 
-  type-to : wrongType rows e ≡ false → (k : ℕ) → wants from (p .kind) (inwardOf p) ≡ some k → stateAt rows (endpointNamed p) .ty ≡ k
-  type-to h k w = cases (among (18 ∷ 19 ∷ []) (p .kind)) masked plain
+  typed : mistypedBy (s .rows) (typedBy from p) ≡ false → RightType s from p
+  typed h = record { type = one-type; types = λ m r l b. mask-absent (s .rows) (field "mask" p) bulk (sym (rw m) ∙ h) r l b }
     where
-      masked : among (18 ∷ 19 ∷ []) (p .kind) ≡ true → stateAt rows (endpointNamed p) .ty ≡ k
-      masked m = absurd (Option·none-ne-some k (sym (mask-wants from (p .kind) (inwardOf p) m) ∙ w))
+      one-type : (k : ℕ) → wants from (p .kind) (inwardOf p) ≡ some k → stateAt (s .rows) (endpointNamed p) .ty ≡ k
+      one-type k w =
+          cases (among (18 ∷ 19 ∷ []) (p .kind))
+          (λ m. absurd (Option·none-ne-some k (sym (mask-wants from (p .kind) (inwardOf p) m) ∙ w)))
+          (λ m. eqb-true (stateAt (s .rows) (endpointNamed p) .ty) k (not-false _ (sym (rw (m, w)) ∙ h)))
 
-      plain : among (18 ∷ 19 ∷ []) (p .kind) ≡ false → stateAt rows (endpointNamed p) .ty ≡ k
-      plain m = eqb-true (stateAt rows (endpointNamed p) .ty) k (not-false _ (sym (rw (m, w)) ∙ sym types-are ∙ h))
-
-  types-to : wrongType rows e ≡ false → among (18 ∷ 19 ∷ []) (p .kind) ≡ true → (r : ℕ) → r < 32 → hasBit (field "mask" p) r ≡ true → rowAt rows r .ty ≡ bulk
-  types-to h m r l b =
-      mask-absent rows (field "mask" p) bulk (sym (rw m) ∙ sym types-are ∙ h) r l b
-
-  type-from : ((k : ℕ) → wants from (p .kind) (inwardOf p) ≡ some k → stateAt rows (endpointNamed p) .ty ≡ k)
-      → (among (18 ∷ 19 ∷ []) (p .kind) ≡ true → (r : ℕ) → r < 32 → hasBit (field "mask" p) r ≡ true → rowAt rows r .ty ≡ bulk)
-      → wrongType rows e ≡ false
-  type-from f g = types-are ∙ cases (among (18 ∷ 19 ∷ []) (p .kind)) masked (λ m. rw m (wanted (wants from (p .kind) (inwardOf p)) refl))
+  typing : RightType s from p → mistypedBy (s .rows) (typedBy from p) ≡ false
+  typing r = cases (among (18 ∷ 19 ∷ []) (p .kind)) (λ m. rw m (mask-none (s .rows) (field "mask" p) bulk (r .types m))) (λ m. rw m (wanted (wants from (p .kind) (inwardOf p)) refl))
     where
-      masked : among (18 ∷ 19 ∷ []) (p .kind) ≡ true → mistypedBy rows (typedBy from p) ≡ false
-      masked m = rw m (mask-none rows (field "mask" p) bulk (g m))
-
-      wanted : (o : Option ℕ) → wants from (p .kind) (inwardOf p) ≡ o → mistypedBy rows (rowBy o p) ≡ false
+      wanted : (o : Option ℕ) → wants from (p .kind) (inwardOf p) ≡ o → mistypedBy (s .rows) (rowBy o p) ≡ false
       wanted none w = refl
-      wanted (some k) w = false-not _ (eq-eqb _ k (f k w))
+      wanted (some k) w = false-not _ (eq-eqb _ k (r .type k w))
 
-  -- 29
-  settled-to : settling t e ≡ false → isGuest from ≡ true → 100 ≤ p .kind → p .kind ≤ 103 → (i : ℕ) → i < 96 → placeAt t i .live ≡ true → oneOf 6 9 (placeAt t i .request .kind) ≡ false
-  unfolding eventOf
-  settled-to h g l u i n v =
-      let w : isTransfer e ≡ true = and-whole _ _ (and-whole _ _ g (le-leb 100 (p .kind) l)) (le-leb (p .kind) 103 u) in
-      fails (placeAt t i .live) _ (none-when t Settling (fails (isTransfer e) _ h w) i n) v
+  pub type-is : (mistypedBy (s .rows) (typedBy from p) ≡ false) ↔ RightType s from p
+  type-is = (typed, typing)
 
-  settled-from : (isGuest from ≡ true → 100 ≤ p .kind → p .kind ≤ 103 → (i : ℕ) → i < 96 → placeAt t i .live ≡ true → oneOf 6 9 (placeAt t i .request .kind) ≡ false) → settling t e ≡ false
-  unfolding eventOf
-  settled-from f = failing (isTransfer e) _ waits
+  pub settled-is : ((isGuest from && leb 100 (p .kind) && leb (p .kind) 103 && isSome (lowest t Settling)) ≡ false) ↔ NoneSettling s from p
+  settled-is = (
+    (λ h g l u i n v.
+        let w = and-whole _ _ (and-whole _ _ g (le-leb 100 (p .kind) l)) (le-leb (p .kind) 103 u) in
+        fails (placeAt t i .live) _ (none-when t Settling (fails (isGuest from && leb 100 (p .kind) && leb (p .kind) 103) _ h w) i n) v),
+    (λ f. failing (isGuest from && leb 100 (p .kind) && leb (p .kind) 103) _
+        (λ w.
+        let r = and-parts (isGuest from && leb 100 (p .kind)) (leb (p .kind) 103) w in
+        let q = and-parts (isGuest from) (leb 100 (p .kind)) (r .0) in
+        when-none t Settling (λ i n. failing (placeAt t i .live) _ (λ v. f (q .0) (leb-true 100 (p .kind) (q .1)) (leb-true (p .kind) 103 (r .1)) i n v)))),
+  )
+
+  pub stream-is : ((comesOnStream from (p .kind) (inwardOf p) && not (stateAt (s .rows) (endpointNamed p) .streaming)) ≡ false) ↔ StreamOpen s from p
+  stream-is = (
+    (λ h o. not-false _ (fails (comesOnStream from (p .kind) (inwardOf p)) _ h o)),
+    (λ f. failing (comesOnStream from (p .kind) (inwardOf p)) _ (λ o. false-not _ (f o))),
+  )
+
+  pub unused-is : ((isRequest from (p .kind) && isSome (lowest t (Id (p .id)))) ≡ false) ↔ UnusedId s from p
+  unused-is = (
+    (λ h r i n v q.
+        let x : eqb (placeAt t i .request .id) (p .id) ≡ false = fails (placeAt t i .live) _ (none-when t (Id (p .id)) (fails (isRequest from (p .kind)) _ h r) i n) v in
+        eqb-false (placeAt t i .request .id) (p .id) x q),
+    (λ f. failing (isRequest from (p .kind)) _ (λ r. when-none t (Id (p .id)) (λ i n. failing (placeAt t i .live) _ (λ v. ne-eqb (placeAt t i .request .id) (p .id) (f r i n v))))),
+  )
+
+  pub room-is : ((isRequest from (p .kind) && not (isSome (lowest t Free))) ≡ false) ↔ HasRoom s from p
+  room-is = (
+    (λ h r. let f = some-at t Free (not-false _ (fails (isRequest from (p .kind)) _ h r)) in (f .0, f .1, not-true _ (f .2))),
+    (λ f. failing (isRequest from (p .kind)) _
+        (λ r. false-not _ (let g = f r in ap isSome (lowest-some t Free (g .0) (g .1) (true-not _ (g .2)) .1)))),
+  )
+
+  -- the request that a reply answers
+  abbrev asked : Place → Bool
+  asked q = q .live && answersBy p (q .request)
+
+  pub asked-by : (i : ℕ) → i < 96 → asked (placeAt t i) ≡ true → AnsweredBy t p i
+  asked-by i n m =
+      let q = placeAt t i .request in
+      let v = and-parts (placeAt t i .live) (answersBy p q) m in
+      let w = and-parts (eqb (q .id) (p .id) && answersKind (p .kind) (q .kind)) (not (carriesTarget (p .kind)) || eqb (q .target) (replyTarget p)) (v .1) in
+      let x = and-parts (eqb (q .id) (p .id)) (answersKind (p .kind) (q .kind)) (w .0) in
+      record {
+        place = n;
+        live = v .0;
+        id = eqb-true (q .id) (p .id) (x .0);
+        kind = x .1;
+        target = λ c. eqb-true (q .target) (replyTarget p) (implied (carriesTarget (p .kind)) (eqb (q .target) (replyTarget p)) (w .1) c);
+      }
+
+  by-asked : (i : ℕ) → AnsweredBy t p i → asked (placeAt t i) ≡ true
+  by-asked i w =
+      let q = placeAt t i .request in
+      and-whole (placeAt t i .live) _ (w .live)
+      (and-whole _ _ (and-whole _ _ (eq-eqb (q .id) (p .id) (w .id)) (w .kind)) (implying (carriesTarget (p .kind)) _ (λ c. eq-eqb (q .target) (replyTarget p) (w .target c))))
+
+  pub found : (i : ℕ) → answeredAt t p ≡ some i → AnsweredBy t p i
+  found i e =
+      let r = first-found asked (placesOf t) i freePlace e in
+      asked-by i (rw (places-length t) at (r .0)) (sym (ap asked (places-at t i)) ∙ r .1)
+
+  pub unfound : answeredAt t p ≡ none → (i : ℕ) → AnsweredBy t p i → ⊥
+  unfound e i w =
+      let r = first-absent asked (placesOf t) freePlace e i (rw (places-length t) (w .place)) in
+      false≢true (sym r ∙ ap asked (places-at t i) ∙ by-asked i w)
+
+  abbrev reply : Bool
+  reply = isReply from (p .kind) (inwardOf p)
+
+  abbrev alone : Bool
+  alone = among (14 ∷ 17 ∷ 27 ∷ []) (p .kind) && eqb (p .id) 0 && eqb (field "status" p) 4
+
+  was-asked : (reply && not (isSome (answeredAt t p)) && not alone) ≡ false → WasAsked s from p
+  was-asked h r = go (answeredAt t p) refl
     where
-      waits : isTransfer e ≡ true → isSome (lowest t Settling) ≡ false
-      waits w =
-          let r = and-parts _ (leb (p .kind) 103) w in
-          let q = and-parts (isGuest from) (leb 100 (p .kind)) (r .0) in
-          when-none t Settling (λ i n. failing (placeAt t i .live) _ (λ v. f (q .0) (leb-true 100 (p .kind) (q .1)) (leb-true (p .kind) 103 (r .1)) i n v))
+      go : (o : Option ℕ) → answeredAt t p ≡ o → ((i : ℕ) × AnsweredBy t p i) ⊎ Unsolicited t p
+      go (some i) e = inl (i, found i e)
+      go none e =
+          let u : alone ≡ true = not-false alone (fails (reply && not (isSome (answeredAt t p))) (not alone) h (and-whole reply _ r (ap (λ (o : Option ℕ). not (isSome o)) e))) in
+          let w = and-parts (among (14 ∷ 17 ∷ 27 ∷ []) (p .kind) && eqb (p .id) 0) (eqb (field "status" p) 4) u in
+          let x = and-parts (among (14 ∷ 17 ∷ 27 ∷ []) (p .kind)) (eqb (p .id) 0) (w .0) in
+          inr (record { kind = x .0; id = eqb-true (p .id) 0 (x .1); status = eqb-true (field "status" p) 4 (w .1); unmatched = unfound e })
 
-  -- 30
-  pub stream-is : streamClosed rows e ≡ (comesOnStream from (p .kind) (inwardOf p) && not (isOpen rows (cond (comesOnStream from (p .kind) (inwardOf p)) (rowBy (wants from (p .kind) (inwardOf p)) p) Untyped)))
-  stream-is = open-is rows (traitsOf (e .class) .streamed) (e .typed) ∙ (λ i. a i .streamed && not (isOpen rows (a i .stream)))
+  asking : WasAsked s from p → (reply && not (isSome (answeredAt t p)) && not alone) ≡ false
+  asking f = failing (reply && not (isSome (answeredAt t p))) (not alone) (λ x. let q = and-parts reply (not (isSome (answeredAt t p))) x in go (f (q .0)) (not-true _ (q .1)))
+    where
+      lost : (i : ℕ) → AnsweredBy t p i → (o : Option ℕ) → answeredAt t p ≡ o → isSome o ≡ false → ⊥
+      lost i w none e n = unfound e i w
+      lost i w (some j) e n = true≢false n
 
-  -- of what comes on a stream, the stream is that of its endpoint's row
-  pub stream-at : comesOnStream from (p .kind) (inwardOf p) ≡ true → isOpen rows (cond (comesOnStream from (p .kind) (inwardOf p)) (rowBy (wants from (p .kind) (inwardOf p)) p) Untyped) ≡ stateAt rows (endpointNamed p) .streaming
-  stream-at h = let w = stream-wants from (p .kind) (inwardOf p) h in rw (h, w .1)
+      go : ((i : ℕ) × AnsweredBy t p i) ⊎ Unsolicited t p → isSome (answeredAt t p) ≡ false → not alone ≡ false
+      go (inl w) n = absurd (lost (w .0) (w .1) (answeredAt t p) refl n)
+      go (inr u) n = false-not alone (and-whole _ _ (and-whole _ _ (u .kind) (eq-eqb (p .id) 0 (u .id))) (eq-eqb (field "status" p) 4 (u .status)))
 
-  stream-to : streamClosed rows e ≡ false → comesOnStream from (p .kind) (inwardOf p) ≡ true → stateAt rows (endpointNamed p) .streaming ≡ true
-  stream-to h o = sym (stream-at o) ∙ not-false _ (fails (comesOnStream from (p .kind) (inwardOf p)) _ (sym stream-is ∙ h) o)
+  pub asked-is : ((reply && not (isSome (answeredAt t p)) && not alone) ≡ false) ↔ WasAsked s from p
+  asked-is = (was-asked, asking)
 
-  stream-from : (comesOnStream from (p .kind) (inwardOf p) ≡ true → stateAt rows (endpointNamed p) .streaming ≡ true) → streamClosed rows e ≡ false
-  stream-from f = stream-is ∙ failing (comesOnStream from (p .kind) (inwardOf p)) _ (λ o. false-not _ (stream-at o ∙ f o))
-
-  -- 31
-  unused-to : idInUse t e ≡ false → isRequest from (p .kind) ≡ true → (i : ℕ) → i < 96 → placeAt t i .live ≡ true → placeAt t i .request .id ≡ p .id → ⊥
-  unfolding eventOf
-  unused-to h r i n v q =
-      let z : isSome (lowest t (Id (p .id))) ≡ false = fails (traitsOf (e .class) .request) _ h ((λ j. a j .request) ∙ r) in
-      let x : eqb (placeAt t i .request .id) (p .id) ≡ false = fails (placeAt t i .live) _ (none-when t (Id (p .id)) z i n) v in
-      false≢true (sym x ∙ eq-eqb (placeAt t i .request .id) (p .id) q)
-
-  unused-from : (isRequest from (p .kind) ≡ true → (i : ℕ) → i < 96 → placeAt t i .live ≡ true → placeAt t i .request .id ≡ p .id → ⊥) → idInUse t e ≡ false
-  unfolding eventOf
-  unused-from f =
-      failing (traitsOf (e .class) .request) _
-      (λ h. when-none t (Id (p .id)) (λ i n. failing (placeAt t i .live) _ (λ v. ne-eqb (placeAt t i .request .id) (p .id) (f (sym (λ j. a j .request) ∙ h) i n v))))
-
-  -- 32
-  room-to : isFull t e ≡ false → isRequest from (p .kind) ≡ true → (i : ℕ) × (i < 96) × (placeAt t i .live ≡ false)
-  room-to h r =
-      let f = some-at t Free (not-false _ (fails (traitsOf (e .class) .request) _ h ((λ j. a j .request) ∙ r))) in
-      (f .0, f .1, not-true _ (f .2))
-
-  room-from : (isRequest from (p .kind) ≡ true → (i : ℕ) × (i < 96) × (placeAt t i .live ≡ false)) → isFull t e ≡ false
-  room-from f =
-      failing (traitsOf (e .class) .request) _
-      (λ h. let r = f (sym (λ j. a j .request) ∙ h) in false-not _ (at-some t Free (r .0) (r .1) (true-not _ (r .2))))
-
-  -- 33, 34
-
-  abbrev pub query : Query
-  query = Answered (e .request) (e .answers)
-
-  module _ (r : isReply from (p .kind) (inwardOf p) ≡ true) where
-    replies : traitsOf (e .class) .reply ≡ true
-    replies = (λ i. a i .reply) ∙ r
-
-    -- the requests that the reply answers are those that the lists name
-    pub answers-is : (q : Request) → answers (e .request) (e .answers) q ≡ answersBy p q
-    answers-is q = sym (rw replies) ∙ (λ i. a i .answers q) ∙ rw r
-
-    pub answers-to : (i : ℕ) → i < 96 → meets query (placeAt t i) ≡ true → AnsweredBy t p i
-    answers-to i n m =
-        let q = placeAt t i .request in
-        let v = and-parts (placeAt t i .live) (answers (e .request) (e .answers) q) m in
-        let w = and-parts (eqb (q .id) (p .id) && answersKind (p .kind) (q .kind)) (not (carriesTarget (p .kind)) || eqb (q .target) (replyTarget p)) (sym (answers-is q) ∙ v .1) in
-        let x = and-parts (eqb (q .id) (p .id)) (answersKind (p .kind) (q .kind)) (w .0) in
-        record {
-          place = n;
-          live = v .0;
-          id = eqb-true (q .id) (p .id) (x .0);
-          kind = x .1;
-          target = λ c. eqb-true (q .target) (replyTarget p) (implied (carriesTarget (p .kind)) (eqb (q .target) (replyTarget p)) (w .1) c);
-        }
-
-    answers-from : (i : ℕ) → AnsweredBy t p i → meets query (placeAt t i) ≡ true
-    answers-from i w =
-        let q = placeAt t i .request in
-        and-whole (placeAt t i .live) _ (w .live)
-        (answers-is q ∙ and-whole _ _ (and-whole _ _ (eq-eqb (q .id) (p .id) (w .id)) (w .kind)) (implying (carriesTarget (p .kind)) _ (λ c. eq-eqb (q .target) (replyTarget p) (w .target c))))
-
-    pub match-is : matchOf t e ≡ matchIn t (lowest t query)
-    unfolding matchOf
-    match-is = rw replies
-
-    pub unsolicited-is : isUnsolicited e ≡ (among (14 ∷ 17 ∷ 27 ∷ []) (p .kind) && eqb (p .id) 0 && eqb (field "status" p) 4)
-    unfolding eventOf
-    unsolicited-is i = a i .unsolicited && eqb (p .id) 0 && eqb (field "status" p) 4
-
-    -- nothing matches, and the reply passes: it is unsolicited
-    pub alone-to : lowest t query ≡ none → noSuchRequest e Unmatched ≡ false → Unsolicited t p
-    alone-to o h =
-        let u : isUnsolicited e ≡ true = not-false _ (fails (traitsOf (e .class) .reply && true) _ h (and-whole _ true replies refl)) in
-        let w = and-parts (among (14 ∷ 17 ∷ 27 ∷ []) (p .kind) && eqb (p .id) 0) (eqb (field "status" p) 4) (sym unsolicited-is ∙ u) in
-        let x = and-parts (among (14 ∷ 17 ∷ 27 ∷ []) (p .kind)) (eqb (p .id) 0) (w .0) in
-        record {
-          kind = x .0;
-          id = eqb-true (p .id) 0 (x .1);
-          status = eqb-true (field "status" p) 4 (w .1);
-          unmatched = λ i z. false≢true (sym (none-when t query (ap isSome o) i (z .place)) ∙ answers-from i z);
-        }
-
-    found-to : (i : ℕ) → lowest t query ≡ some i → tooLong e (Matched i (placeAt t i .request)) ≡ false → AnsweredBy t p i × (countOf p ≤ placeAt t i .request .length)
-    unfolding eventOf
-    found-to i o h =
-        let w = lowest-found t query i o in
-        (answers-to i (w .0) (w .1), ltb-false (placeAt t i .request .length) (countOf p) h)
-
-    reply-to : noSuchRequest e (matchOf t e) ≡ false → tooLong e (matchOf t e) ≡ false → ((i : ℕ) × AnsweredBy t p i × (countOf p ≤ placeAt t i .request .length)) ⊎ Unsolicited t p
-    reply-to h l = go (lowest t query) refl
+  module _ (ids : (i j : ℕ) → placeAt t i .live ≡ true → placeAt t j .live ≡ true → placeAt t i .request .id ≡ placeAt t j .request .id → i ≡ j) where
+    not-longer : (reply && longerThan t p (answeredAt t p)) ≡ false → NotLonger s from p
+    not-longer h r i w = go (answeredAt t p) refl (fails reply _ h r)
       where
-        at : (o : Option ℕ) → lowest t query ≡ o → matchOf t e ≡ matchIn t o
-        at o z = match-is ∙ ap (matchIn t) z
+        go : (o : Option ℕ) → answeredAt t p ≡ o → longerThan t p o ≡ false → countOf p ≤ placeAt t i .request .length
+        go none e n = absurd (unfound e i w)
+        go (some j) e n =
+            let v = found j e in
+            subst (λ (k : ℕ). countOf p ≤ placeAt t k .request .length) (ids j i (v .live) (w .live) (v .id ∙ sym (w .id))) (ltb-false (placeAt t j .request .length) (countOf p) n)
 
-        go : (o : Option ℕ) → lowest t query ≡ o → ((i : ℕ) × AnsweredBy t p i × (countOf p ≤ placeAt t i .request .length)) ⊎ Unsolicited t p
-        go none z = inr (alone-to z (sym (ap (noSuchRequest e) (at none z)) ∙ h))
-        go (some i) z = let w = found-to i z (sym (ap (tooLong e) (at (some i) z)) ∙ l) in inl (i, w .0, w .1)
+    short-enough : NotLonger s from p → (reply && longerThan t p (answeredAt t p)) ≡ false
+    short-enough f = failing reply _ (λ r. go (f r) (answeredAt t p) refl)
+      where
+        go : ((i : ℕ) → AnsweredBy t p i → countOf p ≤ placeAt t i .request .length) → (o : Option ℕ) → answeredAt t p ≡ o → longerThan t p o ≡ false
+        go g none e = refl
+        go g (some j) e = le-ltb (placeAt t j .request .length) (countOf p) (g j (found j e))
 
-    -- one live request has the reply's id, so the one that is found is the one that is meant
-    one-match : idsDiffer t ≡ true → (i j : ℕ) → AnsweredBy t p i → AnsweredBy t p j → i ≡ j
-    one-match u i j v w = differ-when t u i j (v .live) (w .live) (v .id ∙ sym (w .id))
+    pub short-is : ((reply && longerThan t p (answeredAt t p)) ≡ false) ↔ NotLonger s from p
+    short-is = (not-longer, short-enough)
 
-    matched-from : idsDiffer t ≡ true → (i : ℕ) → AnsweredBy t p i → countOf p ≤ placeAt t i .request .length → (noSuchRequest e (matchOf t e) ≡ false) × (tooLong e (matchOf t e) ≡ false)
-    unfolding eventOf
-    matched-from u i w l =
-        let f = lowest-some t query i (w .place) (answers-from i w) in
-        let j = f .0 in
-        let z = lowest-found t query j (f .1) in
-        let same : i ≡ j = one-match u i j w (answers-to j (z .0) (z .1)) in
-        let m : matchOf t e ≡ Matched j (placeAt t j .request) = match-is ∙ ap (matchIn t) (f .1) in (
-          ap (noSuchRequest e) m ∙ failing (traitsOf (e .class) .reply && false) _ (λ x. absurd (false≢true (and-parts (traitsOf (e .class) .reply) false x .1))),
-          ap (tooLong e) m ∙ le-ltb (placeAt t j .request .length) (countOf p) (subst (λ (k : ℕ). countOf p ≤ placeAt t k .request .length) same l),
+    -- ---- all of them
+
+    -- the checks from each on
+    abbrev check34 : Check
+    check34 = 34 when (reply && longerThan t p (answeredAt t p))
+
+    abbrev from34 : List Check
+    from34 = check34 ∷ []
+
+    abbrev check33 : Check
+    check33 = 33 when (reply && not (isSome (answeredAt t p)) && not alone)
+
+    abbrev from33 : List Check
+    from33 = check33 ∷ from34
+
+    abbrev check32 : Check
+    check32 = 32 when (isRequest from (p .kind) && not (isSome (lowest t Free)))
+
+    abbrev from32 : List Check
+    from32 = check32 ∷ from33
+
+    abbrev check31 : Check
+    check31 = 31 when (isRequest from (p .kind) && isSome (lowest t (Id (p .id))))
+
+    abbrev from31 : List Check
+    from31 = check31 ∷ from32
+
+    abbrev check30 : Check
+    check30 = 30 when (comesOnStream from (p .kind) (inwardOf p) && not (stateAt (s .rows) (endpointNamed p) .streaming))
+
+    abbrev from30 : List Check
+    from30 = check30 ∷ from31
+
+    abbrev check29 : Check
+    check29 = 29 when (isGuest from && leb 100 (p .kind) && leb (p .kind) 103 && isSome (lowest t Settling))
+
+    abbrev from29 : List Check
+    from29 = check29 ∷ from30
+
+    abbrev check28 : Check
+    check28 = 28 when mistypedBy (s .rows) (typedBy from p)
+
+    abbrev from28 : List Check
+    from28 = check28 ∷ from29
+
+    abbrev check26 : Check
+    check26 = 26 when disordered (p .kind) (s .head)
+
+    abbrev from26 : List Check
+    from26 = check26 ∷ from28
+
+    abbrev check27 : Check
+    check27 = 27 when (among (1 ∷ 4 ∷ 5 ∷ []) (p .kind) && owed)
+
+    abbrev from27 : List Check
+    from27 = check27 ∷ from26
+
+    abbrev check25 : Check
+    check25 = 25 when (not without && not present)
+
+    abbrev from25 : List Check
+    from25 = check25 ∷ from27
+
+    -- a number that comes further on
+    past-25 : (k : ℕ) {B : Type 0} → eqb 25 k ≡ false → ((firstOf from27 ≡ k) ↔ B) → (firstOf from25 ≡ k) ↔ (HasDevice s from p × B)
+    past-25 k h j = later check25 from27 k device-is h j
+
+    past-27 : (k : ℕ) {B : Type 0} → eqb 27 k ≡ false → ((firstOf from26 ≡ k) ↔ B) → (firstOf from27 ≡ k) ↔ (NoneOwed s from p × B)
+    past-27 k h j = later check27 from26 k ack-is h j
+
+    past-26 : (k : ℕ) {B : Type 0} → eqb 26 k ≡ false → ((firstOf from28 ≡ k) ↔ B) → (firstOf from26 ≡ k) ↔ (Introduced s from p × B)
+    past-26 k h j = later check26 from28 k order-is h j
+
+    past-28 : (k : ℕ) {B : Type 0} → eqb 28 k ≡ false → ((firstOf from29 ≡ k) ↔ B) → (firstOf from28 ≡ k) ↔ (RightType s from p × B)
+    past-28 k h j = later check28 from29 k type-is h j
+
+    past-29 : (k : ℕ) {B : Type 0} → eqb 29 k ≡ false → ((firstOf from30 ≡ k) ↔ B) → (firstOf from29 ≡ k) ↔ (NoneSettling s from p × B)
+    past-29 k h j = later check29 from30 k settled-is h j
+
+    past-30 : (k : ℕ) {B : Type 0} → eqb 30 k ≡ false → ((firstOf from31 ≡ k) ↔ B) → (firstOf from30 ≡ k) ↔ (StreamOpen s from p × B)
+    past-30 k h j = later check30 from31 k stream-is h j
+
+    past-31 : (k : ℕ) {B : Type 0} → eqb 31 k ≡ false → ((firstOf from32 ≡ k) ↔ B) → (firstOf from31 ≡ k) ↔ (UnusedId s from p × B)
+    past-31 k h j = later check31 from32 k unused-is h j
+
+    past-32 : (k : ℕ) {B : Type 0} → eqb 32 k ≡ false → ((firstOf from33 ≡ k) ↔ B) → (firstOf from32 ≡ k) ↔ (HasRoom s from p × B)
+    past-32 k h j = later check32 from33 k room-is h j
+
+    past-33 : (k : ℕ) {B : Type 0} → eqb 33 k ≡ false → ((firstOf from34 ≡ k) ↔ B) → (firstOf from33 ≡ k) ↔ (WasAsked s from p × B)
+    past-33 k h j = later check33 from34 k asked-is h j
+
+    pub numbered : SessionNumbered s from p (firstOf (checksBy s from p))
+    unfolding checksBy
+    numbered =
+        record {
+          no-device = own check25 from27 device-is refl;
+          ack-owed = past-25 27 refl (own check27 from26 ack-is refl);
+          out-of-order = past-25 26 refl (past-27 26 refl (own check26 from28 order-is refl));
+          wrong-type = past-25 28 refl (past-27 28 refl (past-26 28 refl (own check28 from29 type-is refl)));
+          settling = past-25 29 refl (past-27 29 refl (past-26 29 refl (past-28 29 refl (own check29 from30 settled-is refl))));
+          closed-stream = past-25 30 refl (past-27 30 refl (past-26 30 refl (past-28 30 refl (past-29 30 refl (own check30 from31 stream-is refl)))));
+          id-in-use = past-25 31 refl (past-27 31 refl (past-26 31 refl (past-28 31 refl (past-29 31 refl (past-30 31 refl (own check31 from32 unused-is refl))))));
+          full = past-25 32 refl (past-27 32 refl (past-26 32 refl (past-28 32 refl (past-29 32 refl (past-30 32 refl (past-31 32 refl (own check32 from33 room-is refl)))))));
+          unasked = past-25 33 refl (past-27 33 refl (past-26 33 refl (past-28 33 refl (past-29 33 refl (past-30 33 refl (past-31 33 refl (past-32 33 refl (own check33 from34 asked-is refl))))))));
+          too-long = past-25 34 refl (past-27 34 refl (past-26 34 refl (past-28 34 refl (past-29 34 refl (past-30 34 refl (past-31 34 refl (past-32 34 refl (past-33 34 refl (own check34 [] short-is refl)))))))));
+        }
+
+    -- no check is left that could hold
+    allowed : (firstOf from25 ≡ 0) ↔ Allowed s from p
+    allowed =
+        let c = past-25 0 refl (past-27 0 refl (past-26 0 refl (past-28 0 refl (past-29 0 refl (past-30 0 refl (past-31 0 refl (past-32 0 refl (past-33 0 refl (later check34 [] 0 short-is refl ((λ e. e), (λ e. e))))))))))) in (
+          (λ z.
+              let (a, (b, (d, (f, (g, (h, (i, (j, (k, (l, m)))))))))) = c .0 z in
+              record { device = a; ack = b; order = d; type = f; settled = g; stream = h; unused = i; room = j; asked = k; short = l }),
+          (λ q. c .1 (q .device, (q .ack, (q .order, (q .type, (q .settled, (q .stream, (q .unused, (q .room, (q .asked, (q .short, refl))))))))))),
         )
 
-    alone-from : Unsolicited t p → (noSuchRequest e (matchOf t e) ≡ false) × (tooLong e (matchOf t e) ≡ false)
-    alone-from u =
-        let m : matchOf t e ≡ Unmatched = match-is ∙ unfound (lowest t query) refl in
-        let w : isUnsolicited e ≡ true = unsolicited-is ∙ and-whole _ _ (and-whole _ _ (u .kind) (eq-eqb (p .id) 0 (u .id))) (eq-eqb (field "status" p) 4 (u .status)) in
-        (ap (noSuchRequest e) m ∙ failing (traitsOf (e .class) .reply && true) _ (λ x. false-not _ w), ap (tooLong e) m)
-      where
-        unfound : (o : Option ℕ) → lowest t query ≡ o → matchIn t o ≡ Unmatched
-        unfound none z = refl
-        unfound (some i) z = absurd (false≢true (sym (when-none t query (λ j n. cases (meets query (placeAt t j)) (λ x. absurd (u .unmatched j (answers-to j n x))) (λ x. x))) ∙ ap isSome z))
+-- ---- the theorems
 
-  no-reply : isReply from (p .kind) (inwardOf p) ≡ false → (noSuchRequest e (matchOf t e) ≡ false) × (tooLong e (matchOf t e) ≡ false)
-  unfolding matchOf
-  no-reply r =
-      let n : traitsOf (e .class) .reply ≡ false = (λ i. a i .reply) ∙ r in
-      let m : matchOf t e ≡ Unmatched = rw n in
-      (rw n, ap (tooLong e) m)
+module _ (s : Session) (from : Side) (p : Content) (w : wireNumber (linkOf from s) p ≡ 0) (u : idsDiffer (s .requests) ≡ true) where
+  ids : (i j : ℕ) → placeAt (s .requests) i .live ≡ true → placeAt (s .requests) j .live ≡ true → placeAt (s .requests) i .request .id ≡ placeAt (s .requests) j .request .id → i ≡ j
+  ids = differ-when (s .requests) u
 
-  pub reply-from : idsDiffer t ≡ true → (isReply from (p .kind) (inwardOf p) ≡ true → ((i : ℕ) × AnsweredBy t p i × (countOf p ≤ placeAt t i .request .length)) ⊎ Unsolicited t p) → (noSuchRequest e (matchOf t e) ≡ false) × (tooLong e (matchOf t e) ≡ false)
-  reply-from u f = cases (isReply from (p .kind) (inwardOf p)) (λ r. go r (f r)) no-reply
-    where
-      go : isReply from (p .kind) (inwardOf p) ≡ true → ((i : ℕ) × AnsweredBy t p i × (countOf p ≤ placeAt t i .request .length)) ⊎ Unsolicited t p → (noSuchRequest e (matchOf t e) ≡ false) × (tooLong e (matchOf t e) ≡ false)
-      go r (inl w) = matched-from r u (w .0) (w .1) (w .2)
-      go r (inr w) = alone-from r w
-
--- ---- the theorem
-
--- a packet of a known kind, from an end that may send it, to a session whose live requests have different ids (43 refuses others):
--- the session checks give it 0 exactly when it is allowed
-pub zero-exactly : (s : Session) (from : Side) (p : Content) (k : Kind) → find (p .kind) kinds ≡ some k → sends (k .sender) from ≡ true → idsDiffer (s .requests) ≡ true
-    → (numberOf (s .head) (s .rows) (s .requests) (eventOf from p) ≡ 0) ↔ Allowed s from p
-unfolding numberOf
-zero-exactly s from p k f h u = (allowed, zero-number)
-  where
-    a : groundsOf (eventOf from p) ≡ groundsBy from p
-    a = agrees from p k f h
-
-    allowed : numberFor (s .head) (s .rows) (s .requests) (eventOf from p) (matchOf (s .requests) (eventOf from p)) ≡ 0 → Allowed s from p
-    allowed z =
-        let q = no-check-holds (s .head) (s .rows) (s .requests) (eventOf from p) (matchOf (s .requests) (eventOf from p)) z in
-        record {
-          device = device-to s from p a (q .device);
-          ack = ack-to s from p a (q .ack);
-          connect = connect-to s from p a (q .order);
-          interfaces = interfaces-to s from p a (q .order);
-          acknowledgement = acknowledgement-to s from p a (q .order);
-          type = type-to s from p a (q .type);
-          types = types-to s from p a (q .type);
-          settled = settled-to s from p a (q .settled);
-          stream = stream-to s from p a (q .stream);
-          unused = unused-to s from p a (q .unused);
-          room = room-to s from p a (q .room);
-          reply = λ r. reply-to s from p a r (q .matched) (q .short);
-        }
-
-    zero-number : Allowed s from p → numberFor (s .head) (s .rows) (s .requests) (eventOf from p) (matchOf (s .requests) (eventOf from p)) ≡ 0
-    zero-number w =
-        let r = reply-from s from p a u (w .reply) in
-        holds-none (s .head) (s .rows) (s .requests) (eventOf from p) (matchOf (s .requests) (eventOf from p))
-        (record {
-          device = device-from s from p a (w .device);
-          ack = ack-from s from p a (w .ack);
-          order = order-from s from p a (w .connect) (w .interfaces) (w .acknowledgement);
-          type = type-from s from p a (w .type) (w .types);
-          settled = settled-from s from p a (w .settled);
-          stream = stream-from s from p a (w .stream);
-          unused = unused-from s from p a (w .unused);
-          room = room-from s from p a (w .room);
-          matched = r .0;
-          short = r .1;
-        })
-
--- the judge's number is that of the session checks
-pub number-is : (s : Session) (e : Event) → judged s e .number ≡ numberOf (s .head) (s .rows) (s .requests) e
-unfolding judged numberOf
-number-is s e =
-    let n = numberFor (s .head) (s .rows) (s .requests) e (matchOf (s .requests) e) in
-    cases (eqb n 0) (λ t. rw t (sym (eqb-true n 0 t))) (λ t. rw t)
+  judged-zero : (judged s (eventOf from p) .number ≡ 0) ↔ Allowed s from p
+  unfolding checksBy
+  judged-zero = let i = allowed s from p ids in ((λ z. i .0 (sym (number-by s from p w) ∙ z)), (λ a. number-by s from p w ∙ i .1 a))
 
 pub allowed-exactly : AllowedExactly
-allowed-exactly s from p w u =
-    let c = clean (linkOf from s) p w in
-    let i = zero-exactly s from p (c .kind) (c .found) (c .sender) u in
-    (λ z. i .0 (sym (number-is s (eventOf from p)) ∙ z), λ a. number-is s (eventOf from p) ∙ i .1 a)
+allowed-exactly s from p w u = judged-zero s from p w u
+
+pub number-in-words : NumberInWords
+number-in-words s from p w u = subst (SessionNumbered s from p) (sym (number-by s from p w)) (numbered s from p (ids s from p w u))

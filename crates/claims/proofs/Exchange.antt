@@ -1,5 +1,5 @@
 -- Requests and replies: `request-keeps`, `reply-passes`, `reply-consumes`, `answered-absent`, `late`, `cancel-passes`.
--- `agrees` takes the laws of `OnePacket.antt` and `Allowed.antt`, which speak of events, to kind numbers; what ends with a 9 is of its interface,
+-- `agrees` takes the laws of `OnePacket.antt` and `EventChecks.antt`, which speak of events, to kind numbers; what ends with a 9 is of its interface,
 -- since only an 11 answers it, and names that (`same-interface`).
 -- Assumes nothing.
 use Prim.Native.Nat.{ℕ, _≤_}
@@ -27,7 +27,7 @@ use Rattle.kinds.specs.Number.{wireNumber}
 use Rattle.kinds.proofs.RoundTrip.{clean}
 use Rattle.events.specs.Meaning.{meanings, lookUp}
 use Rattle.events.specs.Event.{Event, field, meaningOf, eventOf, targetOf}
-use Rattle.checks.specs.Checks.{traitsOf, matchOf, numberFor, Matched, mistypedBy, isOpen, matchIn, isUnsolicited, noSuchRequest, numberOf}
+use Rattle.checks.specs.Checks.{traitsOf, matchOf, numberFor, Matched, mistypedBy, isOpen, matchIn, isUnsolicited, numberOf}
 use Rattle.checks.specs.Change.{scopeOf}
 use Rattle.session.specs.declared.Session.{Session}
 use Rattle.session.specs.Session.{linkOf}
@@ -36,7 +36,9 @@ use Rattle.claims.specs.Allowed.{among, isRequest, isReply, oneOf, answe
 use Rattle.claims.specs.Grounds.{groundsOf, groundsBy}
 use Rattle.claims.specs.Exchange.{TakesPlace, RequestKeeps, EndsWith, Consumes, ReplyPasses, ReplyConsumes, NoLive, AnsweredAbsent, LateReply, Late, CancelPasses}
 use Rattle.claims.proofs.Grounds.{agrees}
-use Rattle.claims.proofs.Allowed.{holds-none, answers-to, match-is, unsolicited-is, alone-to, reply-from, number-is, allowed-exactly}
+use Rattle.claims.proofs.EventChecks.{holds-none, answers-is, match-is, unsolicited-is, number-is}
+use Rattle.claims.proofs.NumberByKind.{found-by, matched-by, short-by}
+use Rattle.claims.proofs.Allowed.{asked-by, unfound, asked-is, short-is, allowed-exactly}
 use Rattle.claims.proofs.OnePacket.{reply-does, none-held, request-takes, Freed, reply-frees, answered-once, unmatched-keeps, late-reply, from-host}
 
 -- ---- a reply to a set alt is an 11, and its interface is that of its request
@@ -96,12 +98,26 @@ module _ (s : Session) (from : Side) (p : Content) (w : wireNumber (linkOf from 
     passes-when : idsDiffer (s .requests) ≡ true → s .head .present ≡ true
         → (judged s e .number ≡ 0) ↔ (((i : ℕ) × AnsweredBy (s .requests) p i × (countOf p ≤ placeAt (s .requests) i .request .length)) ⊎ Unsolicited (s .requests) p)
     unfolding numberOf
-    passes-when u h = (λ z. allowed-exactly s from p w u .0 z .reply r, zero-number)
+    passes-when u h = (λ z. let a = allowed-exactly s from p w u .0 z in fitting (a .asked r) (a .short r), zero-number)
       where
+        fitting : ((i : ℕ) × AnsweredBy (s .requests) p i) ⊎ Unsolicited (s .requests) p → ((i : ℕ) → AnsweredBy (s .requests) p i → countOf p ≤ placeAt (s .requests) i .request .length)
+            → ((i : ℕ) × AnsweredBy (s .requests) p i × (countOf p ≤ placeAt (s .requests) i .request .length)) ⊎ Unsolicited (s .requests) p
+        fitting (inl (i, a)) f = inl (i, a, f i a)
+        fitting (inr x) f = inr x
+
+        asked : ((i : ℕ) × AnsweredBy (s .requests) p i × (countOf p ≤ placeAt (s .requests) i .request .length)) ⊎ Unsolicited (s .requests) p → ((i : ℕ) × AnsweredBy (s .requests) p i) ⊎ Unsolicited (s .requests) p
+        asked (inl (i, a, l)) = inl (i, a)
+        asked (inr x) = inr x
+
+        -- one live request has the reply's id, so the one that is found is the one that is meant
+        short : ((i : ℕ) × AnsweredBy (s .requests) p i × (countOf p ≤ placeAt (s .requests) i .request .length)) ⊎ Unsolicited (s .requests) p
+            → (i : ℕ) → AnsweredBy (s .requests) p i → countOf p ≤ placeAt (s .requests) i .request .length
+        short (inl (j, a, l)) i b = subst (λ (k : ℕ). countOf p ≤ placeAt (s .requests) k .request .length) (differ-when (s .requests) u j i (a .live) (b .live) (a .id ∙ sym (b .id))) l
+        short (inr x) i b = absurd (x .unmatched i b)
+
         -- 33 and 34 do not hold by what is given, and with a device there the others ask nothing of a host's reply
         zero-number : ((i : ℕ) × AnsweredBy (s .requests) p i × (countOf p ≤ placeAt (s .requests) i .request .length)) ⊎ Unsolicited (s .requests) p → judged s e .number ≡ 0
         zero-number x =
-            let f = reply-from s from p agreed u (λ k. x) in
             let c = reply-does (e .class) replying in
             let d = c .2 (s .head) in
             number-is s e
@@ -115,8 +131,8 @@ module _ (s : Session) (from : Side) (p : Content) (w : wireNumber (linkOf from 
               stream = ap (λ (b : Bool). b && not (isOpen (s .rows) (e .typed))) (d .4);
               unused = ap (λ (b : Bool). b && isSome (lowest (s .requests) (Id (e .request .id)))) (c .0);
               room = ap (λ (b : Bool). b && not (isSome (lowest (s .requests) Free))) (c .0);
-              matched = f .0;
-              short = f .1;
+              matched = matched-by s from p agreed ∙ asked-is s from p .1 (λ k. asked x);
+              short = short-by s from p agreed ∙ short-is s from p (differ-when (s .requests) u) .1 (λ k. short x);
             })
 
     -- a reply to a set alt names the interface of its request
@@ -175,6 +191,14 @@ module _ (s : Session) (from : Side) (p : Content) (w : wireNumber (linkOf from 
     match-at : (o : Option ℕ) → lowest (s .requests) query ≡ o → matchOf (s .requests) e ≡ matchIn (s .requests) o
     match-at o x = match-is s from p agreed r ∙ ap (matchIn (s .requests)) x
 
+    -- nothing matches, and the reply passes: it is unsolicited
+    alone-when : lowest (s .requests) query ≡ none → judged s e .number ≡ 0 → Unsolicited (s .requests) p
+    alone-when x z = go (asked-is s from p .0 (sym (matched-by s from p agreed) ∙ none-held s e z .matched) r)
+      where
+        go : ((i : ℕ) × AnsweredBy (s .requests) p i) ⊎ Unsolicited (s .requests) p → Unsolicited (s .requests) p
+        go (inl (i, a)) = absurd (unfound s from p (sym (found-by s from p agreed r) ∙ x) i a)
+        go (inr u) = u
+
     -- a reply that passes is handed to the one request that it answers, or it is unsolicited and handed to none
     consumes : idsDiffer (s .requests) ≡ true → judged s e .number ≡ 0
         → ((i : ℕ) × Consumes s p (judged s e .session) i) ⊎ (Unsolicited (s .requests) p × (judged s e .session .requests ≡ s .requests))
@@ -184,7 +208,7 @@ module _ (s : Session) (from : Side) (p : Content) (w : wireNumber (linkOf from 
         -- the request at the place that was found is the one; no other has its id, and what ends with it is as document 01 says
         handed : (i : ℕ) → Freed s e i (placeAt (s .requests) i .request) → Consumes s p (judged s e .session) i
         handed i f =
-            let a = answers-to s from p agreed r i (f .within) (and-whole (placeAt (s .requests) i .live) _ (f .live) (f .answered)) in
+            let a = asked-by s from p i (f .within) (and-whole (placeAt (s .requests) i .live) _ (f .live) (sym (answers-is s from p agreed r (placeAt (s .requests) i .request)) ∙ f .answered)) in
             record {
               answers = a;
               short = f .short;
@@ -201,7 +225,7 @@ module _ (s : Session) (from : Side) (p : Content) (w : wireNumber (linkOf from 
 
         go : (o : Option ℕ) → lowest (s .requests) query ≡ o → ((i : ℕ) × Consumes s p (judged s e .session) i) ⊎ (Unsolicited (s .requests) p × (judged s e .session .requests ≡ s .requests))
         go none x =
-            inr (alone-to s from p agreed r x (sym (ap (noSuchRequest e) (match-at none x)) ∙ none-held s e z .matched), unmatched-keeps s e replying (match-at none x))
+            inr (alone-when x z, unmatched-keeps s e replying (match-at none x))
         go (some i) x = inl (i, handed i (reply-frees s e i (placeAt (s .requests) i .request) z (match-at (some i) x)))
 
     -- once it has been handed to a request, no request with its id waits
@@ -210,7 +234,7 @@ module _ (s : Session) (from : Side) (p : Content) (w : wireNumber (linkOf from 
     absent-after u z n = go (lowest (s .requests) query) refl
       where
         go : (o : Option ℕ) → lowest (s .requests) query ≡ o → NoLive (judged s e .session .requests) (p .id)
-        go none x = absurd (n (alone-to s from p agreed r x (sym (ap (noSuchRequest e) (match-at none x)) ∙ none-held s e z .matched)))
+        go none x = absurd (n (alone-when x z))
         go (some i) x = answered-once s e i (placeAt (s .requests) i .request) z (match-at (some i) x) u
 
     -- where no request with its id waits, it is refused, but for an unsolicited status, and it frees nothing

@@ -1,4 +1,5 @@
 pub mod Grounds
+pub mod EventChecks
 pub mod Allowed
 pub mod OnePacket
 pub mod KeptByPacket

@@ -24,7 +24,7 @@ use Rattle.claims.specs.Allowed.{among, isReply, comesOnStream, endpoint
 use Rattle.claims.specs.NumberByKind.{answeredAt, longerThan, checksBy, NumberBy}
 use Rattle.claims.specs.Grounds.{groundsOf, groundsBy}
 use Rattle.claims.proofs.Grounds.{agrees}
-use Rattle.claims.proofs.Allowed.{order-is, types-are, stream-is, stream-at, answers-is, match-is, unsolicited-is, number-is}
+use Rattle.claims.proofs.EventChecks.{order-is, types-are, stream-is, stream-at, answers-is, match-is, unsolicited-is, number-is}
 
 -- ---- each check
 
@@ -45,7 +45,7 @@ module _ (s : Session) (from : Side) (p : Content) (a : groundsOf (eventOf from 
 
   module _ (r : isReply from (p .kind) (inwardOf p) ≡ true) where
     -- the search for a request that it answers
-    found-by : lowest t (Answered (e .request) (e .answers)) ≡ answeredAt t p
+    pub found-by : lowest t (Answered (e .request) (e .answers)) ≡ answeredAt t p
     unfolding lowest
     found-by = λ k. firstAt (λ (q : Place). q .live && answers-is s from p a r (q .request) k) 0 (placesOf t)
 
@@ -64,7 +64,7 @@ module _ (s : Session) (from : Side) (p : Content) (a : groundsOf (eventOf from 
   reply-is : traitsOf (e .class) .reply ≡ isReply from (p .kind) (inwardOf p)
   reply-is k = a k .reply
 
-  matched-by : noSuchRequest e (matchOf t e) ≡ (isReply from (p .kind) (inwardOf p) && not (isSome (answeredAt t p)) && not (among (14 ∷ 17 ∷ 27 ∷ []) (p .kind) && eqb (p .id) 0 && eqb (field "status" p) 4))
+  pub matched-by : noSuchRequest e (matchOf t e) ≡ (isReply from (p .kind) (inwardOf p) && not (isSome (answeredAt t p)) && not (among (14 ∷ 17 ∷ 27 ∷ []) (p .kind) && eqb (p .id) 0 && eqb (field "status" p) 4))
   matched-by = cases (isReply from (p .kind) (inwardOf p)) there elsewhere
     where
       there : isReply from (p .kind) (inwardOf p) ≡ true → noSuchRequest e (matchOf t e) ≡ (isReply from (p .kind) (inwardOf p) && not (isSome (answeredAt t p)) && not (among (14 ∷ 17 ∷ 27 ∷ []) (p .kind) && eqb (p .id) 0 && eqb (field "status" p) 4))
@@ -77,7 +77,7 @@ module _ (s : Session) (from : Side) (p : Content) (a : groundsOf (eventOf from 
           ap (λ (b : Bool). b && isUnmatched (matchOf t e) && not (isUnsolicited e)) (reply-is ∙ r)
           ∙ sym (ap (λ (b : Bool). b && not (isSome (answeredAt t p)) && not (among (14 ∷ 17 ∷ 27 ∷ []) (p .kind) && eqb (p .id) 0 && eqb (field "status" p) 4)) r)
 
-  short-by : tooLong e (matchOf t e) ≡ (isReply from (p .kind) (inwardOf p) && longerThan t p (answeredAt t p))
+  pub short-by : tooLong e (matchOf t e) ≡ (isReply from (p .kind) (inwardOf p) && longerThan t p (answeredAt t p))
   unfolding matchOf
   short-by = cases (isReply from (p .kind) (inwardOf p)) there elsewhere
     where

@@ -22,7 +22,7 @@ use Rattle.device.specs.declared.Rows.{Rows}
 use Rattle.requests.specs.declared.Request.{Request}
 use Rattle.requests.specs.declared.Requests.{Requests}
 use Rattle.requests.specs.Requests.{Place, noRequest, answers, placeAt, lowest, withRequest, released, cleared, isSome, Query, Free, Id, Answered, freePlace, taken, ends, idsDiffer, meets}
-use Rattle.requests.proofs.Places.{differ-when, live-within, cleared-at, lowest-found, lowest-none, place-taken, released-at, lowest-lower}
+use Rattle.requests.proofs.Places.{differ-when, live-within, cleared-at, lowest-found, lowest-none, place-taken, released-at, lowest-lower, lowest-some}
 use Rattle.requests.specs.Clean.{Zeroed}
 use Rattle.requests.proofs.KeptClean.{released-zero}
 use Rattle.header.specs.Link.{isGuest}
@@ -42,7 +42,7 @@ use Rattle.claims.specs.Grounds.{Grounds}
 use Rattle.claims.specs.Exchange.{NoLive, afterEvent, EndedAbsent}
 use Rattle.claims.specs.KeptByPacket.{RefusedKeeps}
 use Rattle.claims.proofs.Grounds.{agrees}
-use Rattle.claims.proofs.Allowed.{NoneHolds, no-check-holds, at-some, number-is}
+use Rattle.claims.proofs.EventChecks.{NoneHolds, no-check-holds, number-is}
 
 -- ---- the judge
 
@@ -405,7 +405,7 @@ ended-absent s e i u a b j l v k = go (place-after-any s e j)
     go (inr (inr x)) =
         let id : placeAt t i .request .id ≡ e .request .id = sym k ∙ ap (λ (p : Place). p .request .id) (x .2) in
         let free : isSome (lowest t (Id (e .request .id))) ≡ false = fails (traitsOf (e .class) .request) _ (none-held s e (x .1) .unused) (x .0) in
-        let met : isSome (lowest t (Id (e .request .id))) ≡ true = at-some t (Id (e .request .id)) i (live-within t i a) (and-whole (placeAt t i .live) _ a (eq-eqb (placeAt t i .request .id) (e .request .id) id)) in
+        let met : isSome (lowest t (Id (e .request .id))) ≡ true = ap isSome (lowest-some t (Id (e .request .id)) i (live-within t i a) (and-whole (placeAt t i .live) _ a (eq-eqb (placeAt t i .request .id) (e .request .id) id)) .1) in
         false≢true (sym free ∙ met)
 
 -- ---- a late reply

@@ -116,29 +116,78 @@ pub record Unsolicited (t : Requests) (p : Content) : Type 0 where
   pub status : field "status" p ≡ 4
   pub unmatched : (i : ℕ) → AnsweredBy t p i → ⊥
 
--- ---- the packet is allowed
+-- ---- what each session check asks of a packet
 
-pub record Allowed (s : Session) (from : Side) (p : Content) : Type 0 where
+module _ (s : Session) (from : Side) (p : Content) where
   -- 25: "All kinds but 0, 1, 4, 5, 22, 23, 24 get 25 without a device."
-  pub device : among (0 ∷ 1 ∷ 4 ∷ 5 ∷ 22 ∷ 23 ∷ 24 ∷ []) (p .kind) ≡ false → s .head .present ≡ true
+  abbrev pub HasDevice : Type 0
+  HasDevice = among (0 ∷ 1 ∷ 4 ∷ 5 ∷ 22 ∷ 23 ∷ 24 ∷ []) (p .kind) ≡ false → s .head .present ≡ true
+
   -- 27: "Kinds 1, 4, 5 get 27 while an ack is owed"
-  pub ack : among (1 ∷ 4 ∷ 5 ∷ []) (p .kind) ≡ true → s .head .owed ≡ false
+  abbrev pub NoneOwed : Type 0
+  NoneOwed = among (1 ∷ 4 ∷ 5 ∷ []) (p .kind) ≡ true → s .head .owed ≡ false
+
   -- 26: "1 needs two .. With a device, 1 gets 26"; "4 needs one or two"; "24 clears it; when none is owed, 26"
-  pub connect : p .kind ≡ 1 → (s .head .present ≡ false) × (s .head .introduction ≡ Two)
-  pub interfaces : p .kind ≡ 4 → s .head .present ≡ false → s .head .introduction ≡ Unintroduced → ⊥
-  pub acknowledgement : p .kind ≡ 24 → s .head .owed ≡ true
+  pub record Introduced : Type 0 where
+    pub connect : p .kind ≡ 1 → (s .head .present ≡ false) × (s .head .introduction ≡ Two)
+    pub interfaces : p .kind ≡ 4 → s .head .present ≡ false → s .head .introduction ≡ Unintroduced → ⊥
+    pub acknowledgement : p .kind ≡ 24 → s .head .owed ≡ true
+
   -- 28: the row of its endpoint has the type that it wants; "18, 19 (every mask bit)" bulk
-  pub type : (ty : ℕ) → wants from (p .kind) (inwardOf p) ≡ some ty → stateAt (s .rows) (endpointNamed p) .ty ≡ ty
-  pub types : among (18 ∷ 19 ∷ []) (p .kind) ≡ true → (r : ℕ) → r < 32 → hasBit (field "mask" p) r ≡ true → rowAt (s .rows) r .ty ≡ bulk
+  pub record RightType : Type 0 where
+    pub type : (ty : ℕ) → wants from (p .kind) (inwardOf p) ≡ some ty → stateAt (s .rows) (endpointNamed p) .ty ≡ ty
+    pub types : among (18 ∷ 19 ∷ []) (p .kind) ≡ true → (r : ℕ) → r < 32 → hasBit (field "mask" p) r ≡ true → rowAt (s .rows) r .ty ≡ bulk
+
   -- 29: "guest kinds 100 to 103 while a kind 6 or 9 waits"
-  pub settled : isGuest from ≡ true → 100 ≤ p .kind → p .kind ≤ 103 → (i : ℕ) → i < 96 → placeAt (s .requests) i .live ≡ true → oneOf 6 9 (placeAt (s .requests) i .request .kind) ≡ false
+  abbrev pub NoneSettling : Type 0
+  NoneSettling =
+      isGuest from ≡ true → 100 ≤ p .kind → p .kind ≤ 103 → (i : ℕ) → i < 96 → placeAt (s .requests) i .live ≡ true → oneOf 6 9 (placeAt (s .requests) i .request .kind) ≡ false
+
   -- 30: "kind 102, host 103 IN and 104 on a closed stream"
-  pub stream : comesOnStream from (p .kind) (inwardOf p) ≡ true → stateAt (s .rows) (endpointNamed p) .streaming ≡ true
+  abbrev pub StreamOpen : Type 0
+  StreamOpen = comesOnStream from (p .kind) (inwardOf p) ≡ true → stateAt (s .rows) (endpointNamed p) .streaming ≡ true
+
   -- 31, 32: "31 if any live request has that id, else 32 if full"
-  pub unused : isRequest from (p .kind) ≡ true → (i : ℕ) → i < 96 → placeAt (s .requests) i .live ≡ true → placeAt (s .requests) i .request .id ≡ p .id → ⊥
-  pub room : isRequest from (p .kind) ≡ true → (i : ℕ) × (i < 96) × (placeAt (s .requests) i .live ≡ false)
-  -- 33, 34: an outstanding request that it answers, and its length is not over that request's; or it is unsolicited
-  pub reply : isReply from (p .kind) (inwardOf p) ≡ true → ((i : ℕ) × AnsweredBy (s .requests) p i × (countOf p ≤ placeAt (s .requests) i .request .length)) ⊎ Unsolicited (s .requests) p
+  abbrev pub UnusedId : Type 0
+  UnusedId = isRequest from (p .kind) ≡ true → (i : ℕ) → i < 96 → placeAt (s .requests) i .live ≡ true → placeAt (s .requests) i .request .id ≡ p .id → ⊥
+
+  abbrev pub HasRoom : Type 0
+  HasRoom = isRequest from (p .kind) ≡ true → (i : ℕ) × (i < 96) × (placeAt (s .requests) i .live ≡ false)
+
+  -- 33: an outstanding request that it answers; or it is unsolicited
+  abbrev pub WasAsked : Type 0
+  WasAsked = isReply from (p .kind) (inwardOf p) ≡ true → ((i : ℕ) × AnsweredBy (s .requests) p i) ⊎ Unsolicited (s .requests) p
+
+  -- 34: its length is not over that request's
+  abbrev pub NotLonger : Type 0
+  NotLonger = isReply from (p .kind) (inwardOf p) ≡ true → (i : ℕ) → AnsweredBy (s .requests) p i → countOf p ≤ placeAt (s .requests) i .request .length
+
+  -- the packet is allowed
+  pub record Allowed : Type 0 where
+    pub device : HasDevice
+    pub ack : NoneOwed
+    pub order : Introduced
+    pub type : RightType
+    pub settled : NoneSettling
+    pub stream : StreamOpen
+    pub unused : UnusedId
+    pub room : HasRoom
+    pub asked : WasAsked
+    pub short : NotLonger
+
+  -- "Where several hold, the lowest from 20 up is given", but 27 comes before 26: a number falls exactly where what comes before it is in order, and its
+  -- own is not
+  pub record SessionNumbered (n : ℕ) : Type 0 where
+    pub no-device : (n ≡ 25) ↔ (HasDevice → ⊥)
+    pub ack-owed : (n ≡ 27) ↔ (HasDevice × (NoneOwed → ⊥))
+    pub out-of-order : (n ≡ 26) ↔ (HasDevice × (NoneOwed × (Introduced → ⊥)))
+    pub wrong-type : (n ≡ 28) ↔ (HasDevice × (NoneOwed × (Introduced × (RightType → ⊥))))
+    pub settling : (n ≡ 29) ↔ (HasDevice × (NoneOwed × (Introduced × (RightType × (NoneSettling → ⊥)))))
+    pub closed-stream : (n ≡ 30) ↔ (HasDevice × (NoneOwed × (Introduced × (RightType × (NoneSettling × (StreamOpen → ⊥))))))
+    pub id-in-use : (n ≡ 31) ↔ (HasDevice × (NoneOwed × (Introduced × (RightType × (NoneSettling × (StreamOpen × (UnusedId → ⊥)))))))
+    pub full : (n ≡ 32) ↔ (HasDevice × (NoneOwed × (Introduced × (RightType × (NoneSettling × (StreamOpen × (UnusedId × (HasRoom → ⊥))))))))
+    pub unasked : (n ≡ 33) ↔ (HasDevice × (NoneOwed × (Introduced × (RightType × (NoneSettling × (StreamOpen × (UnusedId × (HasRoom × (WasAsked → ⊥)))))))))
+    pub too-long : (n ≡ 34) ↔ (HasDevice × (NoneOwed × (Introduced × (RightType × (NoneSettling × (StreamOpen × (UnusedId × (HasRoom × (WasAsked × (NotLonger → ⊥))))))))))
 
 -- demand 2 for the session checks: of a packet that came out of the wire checks, to a session whose live requests have different ids (43 refuses
 -- others), they give 0 exactly when it is allowed
@@ -146,3 +195,9 @@ abbrev pub AllowedExactly : Type 0
 AllowedExactly =
     (s : Session) (from : Side) (p : Content) → wireNumber (linkOf from s) p ≡ 0 → idsDiffer (s .requests) ≡ true
     → (judged s (eventOf from p) .number ≡ 0) ↔ Allowed s from p
+
+-- and they give each other number exactly where its check is the first that fails
+abbrev pub NumberInWords : Type 0
+NumberInWords =
+    (s : Session) (from : Side) (p : Content) → wireNumber (linkOf from s) p ≡ 0 → idsDiffer (s .requests) ≡ true
+    → SessionNumbered s from p (judged s (eventOf from p) .number)

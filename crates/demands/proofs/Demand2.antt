@@ -13,6 +13,7 @@ use lib.ListN.{length, take}
 use borrow.Author.Tests.{eqb-true, le-ltb, ltb-false}
 use borrow.Table.Steps.{cases}
 use Rattle.header.specs.declared.Side.{Side}
+use Rattle.header.specs.declared.Side.the-variants.{Guest, Host}
 use Rattle.header.specs.Header.{headerNumber}
 use Rattle.requests.specs.Requests.{idsDiffer}
 use Rattle.kinds.specs.Content.{Content}
@@ -46,11 +47,22 @@ use Rattle.demands.proofs.Demand3.{offer-barred, offer-open, judgedOf, 
 -- held counts are not the session checks' concern
 allowed-as : (d from : Side) (n : ℕ) (s : Session) (p : Content) → Allowed s from p → Allowed (heldAs d n s) from p
 allowed-as d from n s p a =
-    record { device = a .device; ack = a .ack; connect = a .connect; interfaces = a .interfaces; acknowledgement = a .acknowledgement; type = a .type; types = a .types; settled = a .settled; stream = a .stream; unused = a .unused; room = a .room; reply = a .reply }
+    record {
+      device = a .device;
+      ack = a .ack;
+      order = record { connect = a .order .connect; interfaces = a .order .interfaces; acknowledgement = a .order .acknowledgement };
+      type = record { type = a .type .type; types = a .type .types };
+      settled = a .settled;
+      stream = a .stream;
+      unused = a .unused;
+      room = a .room;
+      asked = a .asked;
+      short = a .short;
+    }
 
 as-allowed : (d from : Side) (n : ℕ) (s : Session) (p : Content) → Allowed (heldAs d n s) from p → Allowed s from p
-as-allowed d from n s p a =
-    record { device = a .device; ack = a .ack; connect = a .connect; interfaces = a .interfaces; acknowledgement = a .acknowledgement; type = a .type; types = a .types; settled = a .settled; stream = a .stream; unused = a .unused; room = a .room; reply = a .reply }
+as-allowed Guest from n s p a = allowed-as Guest from (s .head .held .guest) (heldAs Guest n s) p a
+as-allowed Host from n s p a = allowed-as Host from (s .head .held .host) (heldAs Host n s) p a
 
 module _ (from : Side) (s : Session) (hold piece : List ℕ) where
   abbrev all : List ℕ

@@ -15,7 +15,6 @@ pub mod Marked
 pub mod Unique
 pub mod Effects
 pub mod PassesInWords
-pub mod SessionNumbers
 pub mod WriterNumbers
 pub mod AtWork
 pub mod Alike

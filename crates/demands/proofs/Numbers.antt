@@ -25,7 +25,7 @@ use Rattle.session.specs.Session.{linkOf, unfit}
 use Rattle.session.specs.Step.{judged}
 use Rattle.gate.specs.Offer.{isWaiting, barred, heldWhole}
 use Rattle.gate.specs.Write.{shut, writeBy}
-use Rattle.claims.proofs.Allowed.{number-is}
+use Rattle.claims.proofs.EventChecks.{number-is}
 
 -- what holds of each number of a list
 abbrev pub Each : (ℕ → Type 0) → List ℕ → Type 0

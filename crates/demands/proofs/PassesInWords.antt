@@ -1,17 +1,17 @@
 -- Demand 2 in words: each test in front of the wire checks holds exactly where its relation does, and the wire checks are `wire-exactly`.
--- A packet's number among the wire checks is the call's: no session check has one of 13 to 24, nor is 40 one.
+-- A packet's number among the wire checks is the call's: no session check has one of 13 to 24, nor is 40 one. Behind them it is `numbered`.
 -- Assumes nothing.
-use Prim.Native.Nat.{ℕ, _+_, _≤_, _<_}
+use Prim.Native.Nat.{ℕ, _≤_}
 use native.Mathlib.Omega.{arith}
 use mathlib.Core.Bool.{Bool, true, false, cond, not, _&&_, true≢false, false≢true}
-use mathlib.Core.List.{List, [], _∷_, _++_}
-use mathlib.Core.Logic.{_↔_, _⊎_, inl, inr}
+use mathlib.Core.List.{List}
+use mathlib.Core.Logic.{_↔_, inl, inr}
 use mathlib.Core.Path.{_≡_, refl, sym, ap, subst, _∙_}
-use lib.ListN.{length, take}
+use lib.ListN.{length}
 use lib.Dec.{eqb, ltb}
 use borrow.Author.Tests.{ltb-true, ltb-false, lt-ltb, le-ltb, eqb-true, eqb-false, eq-eqb, ne-eqb}
 use borrow.Table.Steps.{cases}
-use Rattle.octets.proofs.Logic.{and-parts, and-whole, failing, fails, true-not, false-not}
+use Rattle.octets.proofs.Logic.{and-parts, and-whole}
 use Rattle.header.specs.declared.Side.{Side}
 use Rattle.header.specs.declared.Side.the-variants.{Guest, Host}
 use Rattle.header.specs.declared.Link.{Link}
@@ -29,9 +29,10 @@ use Rattle.checks.specs.Checks.{firstOf}
 use Rattle.session.specs.declared.Session.{Session}
 use Rattle.session.specs.Session.{linkOf, unfit}
 use Rattle.session.specs.Step.{judged}
-use Rattle.claims.specs.Allowed.{Allowed}
+use Rattle.claims.specs.Allowed.{Allowed, SessionNumbered}
 use Rattle.claims.specs.NumberByKind.{checksBy}
-use Rattle.frame.specs.Cut.{Cut, more, bad, whole, cutOf}
+use Rattle.claims.proofs.Allowed.{numbered}
+use Rattle.frame.specs.Cut.{more, whole, cutOf}
 use Rattle.frame.specs.Frame.{headSize, headNumber, cutAt, isMore}
 use Rattle.wire.specs.Told.{IsWhole, whole-is}
 use Rattle.wire.specs.Usbredir.{usbredir}
@@ -43,9 +44,9 @@ use Rattle.gate.proofs.Ready.{fit-is, is-fit}
 use Rattle.demands.proofs.Numbers.{wire-numbers, session-numbers}
 use Rattle.demands.specs.EachCall.{ownPassed, otherPassed, Goes}
 use Rattle.demands.proofs.EachCall.{bars, shuts}
-use Rattle.demands.specs.Demand2.{packetAt, Passes, Writable}
+use Rattle.demands.specs.Demand2.{packetAt, Passes}
 use Rattle.demands.proofs.Demand2.{demand-2, judged-call, number-in-gate, writer-exactly}
-use Rattle.demands.specs.PassesInWords.{Leavable, HeaderAllowed, sizeOfPacket, NotWhole, atHand, packetIn, Opens, Arrives, OpensWriter, Reaches, PassesInWords, WritesInWords, PassesExactly, WritesExactly, HeaderNumbered, HeaderNumberIs, WriterHeaderNumberIs, ReaderNumberIs, WriterNumberIs}
+use Rattle.demands.specs.PassesInWords.{Leavable, HeaderAllowed, sizeOfPacket, NotWhole, atHand, packetIn, Opens, Arrives, OpensWriter, Reaches, PassesInWords, PassesExactly, WritesExactly, HeaderNumbered, HeaderNumberIs, WriterHeaderNumberIs, ReaderNumberIs, WriterNumberIs, SessionNumberIs}
 
 -- ---- 43, of the session itself
 
@@ -409,6 +410,12 @@ next-as m n k a b z =
     low : 0 ≡ k → ⊥
     low e = omega (arith, a, e)
 
+-- the number of a packet that becomes whole: that of the wire checks, then that of the session checks
+arrived-number : (from : Side) (s : Session) (hold piece : List ℕ) → Arrives from s hold piece
+    → offerOf from s hold piece .number ≡ orNext (wireNumber (linkOf from s) (packetIn from s hold piece)) (firstOf (checksBy s from (packetIn from s hold piece)))
+arrived-number from s hold piece a =
+    number-in-gate from s hold piece (ready-of from s hold piece (a .opens)) (sizeOfPacket (linkOf from s) (atHand from s hold piece)) (whole-of from s hold piece a)
+
 pub reader-number-is : ReaderNumberIs
 reader-number-is from s hold piece a = number-as l₁ p (wireNumber l₁ p) (offerOf from s hold piece .number) (λ k u v. subst (λ (n : ℕ). (n ≡ k) ↔ (wireNumber l₁ p ≡ k)) (sym number) (next-as (wireNumber l₁ p) (firstOf (checksBy s from p)) k u v (other k u v))) (wire-number-is l₁ p)
   where
@@ -418,8 +425,8 @@ reader-number-is from s hold piece a = number-as l₁ p (wireNumber l₁ p) (off
     p : Content
     p = packetIn from s hold piece
 
-    number : offerOf from s hold piece .number ≡ orNext (wireNumber (linkOf from s) (packetIn from s hold piece)) (firstOf (checksBy s from (packetIn from s hold piece)))
-    number = number-in-gate from s hold piece (ready-of from s hold piece (a .opens)) (sizeOfPacket (linkOf from s) (atHand from s hold piece)) (whole-of from s hold piece a)
+    number : offerOf from s hold piece .number ≡ orNext (wireNumber l₁ p) (firstOf (checksBy s from p))
+    number = arrived-number from s hold piece a
 
     -- where the wire checks find nothing, the number is a session check's
     other : (k : ℕ) → 13 ≤ k → k ≤ 24 → wireNumber (linkOf from s) (packetIn from s hold piece) ≡ 0 → firstOf (checksBy s from (packetIn from s hold piece)) ≡ k → ⊥
@@ -448,3 +455,11 @@ writer-number-is from s p space r =
     other : (b : Bool) (k : ℕ) → 13 ≤ k → k ≤ 24 → _≡_ {A = ℕ} (cond b 40 0) k → ⊥
     other true k u v e = omega (arith, u, v, e)
     other false k u v e = omega (arith, u, v, e)
+
+-- ---- which number, of 25 to 34
+
+pub session-number-is : SessionNumberIs
+session-number-is from s hold piece a f =
+    let p : Content = packetIn from s hold piece in
+    let z : wireNumber (linkOf from s) p ≡ 0 = wire-exactly (linkOf from s) p .1 f in
+    subst (SessionNumbered s from p) (sym (arrived-number from s hold piece a ∙ ap (λ (m : ℕ). orNext m (firstOf (checksBy s from p))) z)) (numbered s from p (a .opens .leavable .ids))

@@ -4,26 +4,22 @@
 -- Assumes nothing: these are definitions, and the statements that `proofs/PassesInWords.antt` proves.
 use Prim.Native.Nat.{ℕ, _+_, _≤_, _<_}
 use mathlib.Core.Bool.{true, false}
-use mathlib.Core.List.{List, [], _∷_, _++_}
+use mathlib.Core.List.{List, _++_}
 use mathlib.Core.Logic.{_↔_, _⊎_}
-use mathlib.Core.Option.{some}
 use mathlib.Core.Path.{_≡_}
 use lib.ListN.{length}
 use Rattle.header.specs.declared.Side.{Side}
 use Rattle.header.specs.declared.Link.{Link}
-use Rattle.octets.specs.Bits.{hasBit}
-use Rattle.header.specs.Link.{isGuest, passed, own}
+use Rattle.header.specs.Link.{passed, own}
 use Rattle.header.specs.Header.{kindOf, lengthOf}
 use Rattle.kinds.specs.Content.{Content}
 use Rattle.kinds.specs.Codec.{encode, bodyLength}
 use Rattle.kinds.specs.Formed.{Formed, Numbered}
-use Rattle.device.specs.Device.{control, bulk, rowAt, stateAt}
-use Rattle.device.specs.declared.Introduction.the-variants.{Unintroduced, Two}
+use Rattle.device.specs.Device.{control, rowAt}
 use Rattle.requests.specs.Requests.{placeAt}
-use Rattle.events.specs.Event.{field}
 use Rattle.session.specs.declared.Session.{Session}
 use Rattle.session.specs.Session.{linkOf}
-use Rattle.claims.specs.Allowed.{among, isRequest, isReply, oneOf, wants, comesOnStream, endpointNamed, inwardOf, countOf, AnsweredBy, Unsolicited, Allowed}
+use Rattle.claims.specs.Allowed.{Allowed, SessionNumbered}
 use Rattle.frame.specs.Frame.{headSize}
 use Rattle.gate.specs.Offer.{heldBytes, offerOf}
 use Rattle.gate.specs.Write.{writeBy}
@@ -159,66 +155,6 @@ abbrev pub WriterNumberIs : Type 0
 WriterNumberIs = (from : Side) (s : Session) (p : Content) (space : ℕ) → Reaches from s p → Numbered (linkOf from s) p (writeBy from s p space)
 
 -- ---- which number, of 25 to 34
-
--- what each of them asks, as `Allowed` has it
-module _ (s : Session) (from : Side) (p : Content) where
-  -- 25
-  abbrev pub HasDevice : Type 0
-  HasDevice = among (0 ∷ 1 ∷ 4 ∷ 5 ∷ 22 ∷ 23 ∷ 24 ∷ []) (p .kind) ≡ false → s .head .present ≡ true
-
-  -- 27
-  abbrev pub NoneOwed : Type 0
-  NoneOwed = among (1 ∷ 4 ∷ 5 ∷ []) (p .kind) ≡ true → s .head .owed ≡ false
-
-  -- 26
-  pub record Introduced : Type 0 where
-    pub connect : p .kind ≡ 1 → (s .head .present ≡ false) × (s .head .introduction ≡ Two)
-    pub interfaces : p .kind ≡ 4 → s .head .present ≡ false → s .head .introduction ≡ Unintroduced → ⊥
-    pub acknowledgement : p .kind ≡ 24 → s .head .owed ≡ true
-
-  -- 28
-  pub record RightType : Type 0 where
-    pub type : (ty : ℕ) → wants from (p .kind) (inwardOf p) ≡ some ty → stateAt (s .rows) (endpointNamed p) .ty ≡ ty
-    pub types : among (18 ∷ 19 ∷ []) (p .kind) ≡ true → (r : ℕ) → r < 32 → hasBit (field "mask" p) r ≡ true → rowAt (s .rows) r .ty ≡ bulk
-
-  -- 29
-  abbrev pub NoneSettling : Type 0
-  NoneSettling =
-      isGuest from ≡ true → 100 ≤ p .kind → p .kind ≤ 103 → (i : ℕ) → i < 96 → placeAt (s .requests) i .live ≡ true → oneOf 6 9 (placeAt (s .requests) i .request .kind) ≡ false
-
-  -- 30
-  abbrev pub StreamOpen : Type 0
-  StreamOpen = comesOnStream from (p .kind) (inwardOf p) ≡ true → stateAt (s .rows) (endpointNamed p) .streaming ≡ true
-
-  -- 31
-  abbrev pub UnusedId : Type 0
-  UnusedId = isRequest from (p .kind) ≡ true → (i : ℕ) → i < 96 → placeAt (s .requests) i .live ≡ true → placeAt (s .requests) i .request .id ≡ p .id → ⊥
-
-  -- 32
-  abbrev pub HasRoom : Type 0
-  HasRoom = isRequest from (p .kind) ≡ true → (i : ℕ) × (i < 96) × (placeAt (s .requests) i .live ≡ false)
-
-  -- 33
-  abbrev pub WasAsked : Type 0
-  WasAsked = isReply from (p .kind) (inwardOf p) ≡ true → ((i : ℕ) × AnsweredBy (s .requests) p i) ⊎ Unsolicited (s .requests) p
-
-  -- 34
-  abbrev pub NotLonger : Type 0
-  NotLonger = isReply from (p .kind) (inwardOf p) ≡ true → (i : ℕ) → AnsweredBy (s .requests) p i → countOf p ≤ placeAt (s .requests) i .request .length
-
-  -- "Where several hold, the lowest from 20 up is given", but 27 comes before 26: a number falls exactly where what comes before it is in order, and its
-  -- own is not
-  pub record SessionNumbered (n : ℕ) : Type 0 where
-    pub no-device : (n ≡ 25) ↔ (HasDevice → ⊥)
-    pub ack-owed : (n ≡ 27) ↔ (HasDevice × (NoneOwed → ⊥))
-    pub out-of-order : (n ≡ 26) ↔ (HasDevice × (NoneOwed × (Introduced → ⊥)))
-    pub wrong-type : (n ≡ 28) ↔ (HasDevice × (NoneOwed × (Introduced × (RightType → ⊥))))
-    pub settling : (n ≡ 29) ↔ (HasDevice × (NoneOwed × (Introduced × (RightType × (NoneSettling → ⊥)))))
-    pub closed-stream : (n ≡ 30) ↔ (HasDevice × (NoneOwed × (Introduced × (RightType × (NoneSettling × (StreamOpen → ⊥))))))
-    pub id-in-use : (n ≡ 31) ↔ (HasDevice × (NoneOwed × (Introduced × (RightType × (NoneSettling × (StreamOpen × (UnusedId → ⊥)))))))
-    pub full : (n ≡ 32) ↔ (HasDevice × (NoneOwed × (Introduced × (RightType × (NoneSettling × (StreamOpen × (UnusedId × (HasRoom → ⊥))))))))
-    pub unasked : (n ≡ 33) ↔ (HasDevice × (NoneOwed × (Introduced × (RightType × (NoneSettling × (StreamOpen × (UnusedId × (HasRoom × (WasAsked → ⊥)))))))))
-    pub too-long : (n ≡ 34) ↔ (HasDevice × (NoneOwed × (Introduced × (RightType × (NoneSettling × (StreamOpen × (UnusedId × (HasRoom × (WasAsked × (NotLonger → ⊥))))))))))
 
 -- A packet that becomes whole and is formed gets a number of the session checks exactly so.
 abbrev pub SessionNumberIs : Type 0
