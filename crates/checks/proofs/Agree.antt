@@ -7,7 +7,6 @@ use mathlib.Core.Path.{_≡_, refl, sym, ap, _∙_}
 use mathlib.Core.Bool.{Bool, true, false, cond, not, _&&_, _||_, true≢false}
 use mathlib.Core.Logic.{_⊎_, inl, inr}
 use mathlib.Core.Option.{Option, none, some}
-use lib.ListN.{getD}
 use lib.Dec.{eqb, ltb}
 use borrow.Author.Tests.{eqb-true, eq-eqb}
 use borrow.Table.Steps.{cases}
@@ -16,17 +15,15 @@ use Rattle.header.specs.declared.Side.{Side}
 use Rattle.endpoint.specs.declared.Endpoint.{Endpoint}
 use Rattle.device.specs.declared.Head.{Head}
 use Rattle.device.specs.declared.Rows.{Rows}
-use Rattle.device.specs.declared.Introduction.{Introduction}
 use Rattle.device.specs.declared.Scope.the-variants.{NoRow}
 use Rattle.device.specs.Device.{stateAt}
 use Rattle.requests.specs.declared.Request.{Request}
 use Rattle.requests.specs.declared.Answerable.{Answerable}
 use Rattle.requests.specs.declared.Requests.{Requests}
-use Rattle.requests.specs.Requests.{places, isSome, freeSlot, requestAt, Free, Id, Settling, Answered, answers, placeAt, lowest, idsDiffer}
+use Rattle.requests.specs.Requests.{places, isSome, requestAt, Free, Id, Settling, Answered, answers, placeAt, lowest, idsDiffer}
 use Rattle.requests.proofs.Places.{place-live, lowest-found, answered-by-id, answeredBy}
 use Rattle.events.specs.declared.Typed.{Typed}
 use Rattle.events.specs.declared.Typed.the-variants.{OfEndpoint}
-use Rattle.events.specs.declared.Reply.{Reply}
 use Rattle.events.specs.Meaning.{Class, Hello, Connect, Interfaces, Endpoints, Disconnect, Reset, Ack, Cancel, Filter, StartRequest, PlainRequest, StreamStatus, PlainReply, StreamData}
 use Rattle.events.specs.Event.{Event, isTransfer, caseOf, replyOf}
 use Rattle.checks.specs.declared.Change.{Change}
@@ -35,7 +32,7 @@ use Rattle.checks.specs.declared.Ruling.{Ruling}
 use Rattle.checks.specs.declared.Ruling.the-variants.{Denied, Granted}
 use Rattle.checks.specs.Checks.{Match, Unmatched, Matched, matchIn, matchOf, isUnmatched, tooLong, mistypedBy, isDone, isBegun, numberFor, numberOf}
 use Rattle.checks.specs.Change.{ruledBy, rulingOf, opens, scopeOf, placeOr, placeIn}
-use Rattle.checks.specs.Ruled.{ruled, withDevice, askedBy, taking, repliedIn, streamedBy, unmatched, alone, settled, settledBy, expected, scopeTo}
+use Rattle.checks.specs.Ruled.{ruled, taking, repliedIn, unmatched, alone, settled, scopeTo}
 
 -- what an event is that its packet's table of meanings gives: a transfer is a request or stream data, and stream data is on an endpoint
 pub record Proper (e : Event) : Type 0 where

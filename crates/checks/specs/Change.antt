@@ -1,7 +1,7 @@
 -- What a packet that passes does, as a change: by its class and, for a reply, by the request that it answers.
 -- Assumes nothing: these are definitions.
 use Prim.Native.Nat.{ℕ}
-use mathlib.Core.Bool.{Bool, true, false, cond, _&&_}
+use mathlib.Core.Bool.{Bool, false, cond, _&&_}
 use mathlib.Core.Option.{Option, none, some}
 use lib.Dec.{eqb}
 use Rattle.device.specs.declared.Head.{Head}

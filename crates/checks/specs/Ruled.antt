@@ -1,7 +1,7 @@
 -- A packet ruled on case by case, as the code goes: each case asks only what can refuse it, and a reply waits for the slot of its request.
 -- Assumes nothing: these are definitions. `ruled-is` in `Agree` shows that, settled, they are the rules.
 use Prim.Native.Nat.{ℕ}
-use mathlib.Core.Bool.{Bool, true, false, cond, not, _&&_, _||_}
+use mathlib.Core.Bool.{Bool, false, cond, not, _&&_, _||_}
 use mathlib.Core.Option.{Option, none, some}
 use lib.ListN.{getD}
 use lib.Dec.{eqb, ltb}
@@ -19,7 +19,6 @@ use Rattle.events.specs.declared.Typed.{Typed}
 use Rattle.events.specs.declared.Reply.{Reply}
 use Rattle.events.specs.declared.Case.{Case}
 use Rattle.events.specs.declared.Case.the-variants as cases
-use Rattle.checks.specs.declared.Change.{Change}
 use Rattle.checks.specs.declared.Change.the-variants.{NoChange, Hello, Connect, Interfaces, Endpoints, Disconnect, Reset, Acknowledge, Take, TakeAndOpen, Release}
 use Rattle.checks.specs.declared.Expected.{Expected}
 use Rattle.checks.specs.declared.Ruling.{Ruling}

@@ -2,10 +2,10 @@
 -- Assumes nothing: these are definitions.
 use Prim.Native.Nat.{ℕ, _+_, _*_, _≤_, _<_}
 use mathlib.Core.Path.{_≡_}
-use mathlib.Core.Bool.{true, false, cond, not, _&&_, _||_}
+use mathlib.Core.Bool.{false, cond}
 use mathlib.Core.List.{List}
 use lib.ListN.{length}
-use lib.Dec.{eqb, leb}
+use lib.Dec.{eqb}
 use Rattle.octets.specs.Little.{le}
 use Rattle.octets.specs.Bits.{hasBit}
 use Rattle.header.specs.declared.Header.{Header}
@@ -13,7 +13,7 @@ use Rattle.header.specs.declared.Link.{Link}
 use Rattle.header.specs.Link.{sharedSet}
 use Rattle.kinds.specs.Table.{kindAt}
 use Rattle.kinds.specs.Content.{Content, shared, size}
-use Rattle.kinds.specs.Number.{sends, inOrder, wireNumber}
+use Rattle.kinds.specs.Number.{wireNumber}
 use Rattle.kinds.specs.Codec.{contentAt}
 use Rattle.packet.specs.declared.Packet.{Packet}
 use Rattle.packet.specs.Packet.{shownOf, contentOf}

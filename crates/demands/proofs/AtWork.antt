@@ -2,9 +2,8 @@
 -- Assumes nothing.
 use Prim.Native.Nat.{ℕ, _<_}
 use native.Mathlib.Omega.{arith}
-use mathlib.Core.Bool.{cond}
 use mathlib.Core.List.{List, [], _∷_, _++_}
-use mathlib.Core.Path.{_≡_, refl, ap, _∙_}
+use mathlib.Core.Path.{_≡_, refl, _∙_}
 use lib.ListN.{length, replicate}
 use lib.Dec.{lit<, lit≤}
 use Rattle.header.specs.declared.Side.the-variants.{Guest}
@@ -27,7 +26,7 @@ use Rattle.frame.specs.Cut.{cutOf}
 use Rattle.gate.specs.Verdict.{verdictOf}
 use Rattle.gate.specs.Offer.{barred, offerOf}
 use Rattle.gate.specs.Write.{shut, writeBy, output, outputSize}
-use Rattle.wire.specs.Reader.{run, outs, taken, Cuts, within, comesOut, accepted, joined}
+use Rattle.wire.specs.Reader.{run, taken, Cuts, within, accepted, joined}
 use Rattle.wire.specs.Usbredir.{usbredir}
 use Rattle.demands.specs.Demand3.{reader, WriterCall, writer, Starts}
 use Rattle.demands.proofs.Demand3.{demand-3}

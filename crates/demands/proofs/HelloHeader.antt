@@ -5,8 +5,7 @@ use mathlib.Core.Bool.{Bool, true, false, cond, not, _&&_}
 use mathlib.Core.Path.{_≡_, refl}
 use lib.Dec.{eqb}
 use borrow.Author.Tests.{ne-eqb}
-use Rattle.header.specs.declared.Link.{Link}
-use Rattle.header.specs.Link.{sharedSet, idWidth}
+use Rattle.header.specs.Link.{idWidth}
 use Rattle.header.specs.Header.{headerSize}
 use Rattle.demands.specs.HelloHeader.{HelloHeader}
 

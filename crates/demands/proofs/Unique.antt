@@ -23,7 +23,7 @@ use Rattle.gate.specs.declared.Decided.{Decided}
 use Rattle.gate.specs.declared.Offered.{Offered}
 use Rattle.gate.specs.Offer.{Outcome, offerOf, outcome}
 use Rattle.gate.specs.Decide.{outcomeBy, Lends, Decides}
-use Rattle.demands.specs.Unique.{OneOffer, OneDecision, DecidesFor, OneReading, OneReadingBehind, OneWriting, OneEncoding}
+use Rattle.demands.specs.Unique.{OneOffer, OneDecision, OneReading, OneReadingBehind, OneWriting, OneEncoding}
 use Rattle.demands.proofs.Decisions.{same-handed, decided-alike}
 
 -- ---- packets

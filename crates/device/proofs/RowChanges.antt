@@ -1,4 +1,4 @@
--- What each change leaves at a row, that none but a new endpoint table changes a type, and what reads one column only.
+-- What each change leaves at a row, and that none but a new endpoint table changes a type.
 -- A column that a change makes is tabulated, so that its value at each of the 32 rows is that of its function (`tabulated-at`), whatever was
 -- there before; the others are as they were. Rows 0 and 16 are control by their types alone (`closed-control`, `stream-control`,
 -- `replaced-control`). A stream that a packet moves is at the row of its endpoint, which is below 32 (`stream-by-row`).
@@ -24,7 +24,7 @@ use Rattle.scan.proofs.Searches.{getD-set, any-absent, any-not, tabulated-lengt
 use Rattle.device.specs.declared.Rows.{Rows}
 use Rattle.device.specs.declared.Scope.{Scope}
 use Rattle.device.specs.declared.Scope.the-variants.{NoRow, EveryRow, OfInterface}
-use Rattle.device.specs.Device.{control, invalid, RowState, closedRow, rowAt, rowsOf, startRows, stateAt, rowIn, isRow, mistyped, maskMistyped, withStreams, streamIn, streamTo, replaced, touches, closed, touchedIn, touched, controlRows}
+use Rattle.device.specs.Device.{control, invalid, RowState, closedRow, rowAt, rowsOf, startRows, isRow, mistyped, maskMistyped, withStreams, streamIn, streamTo, replaced, touches, closed, controlRows}
 use Rattle.device.specs.Columns.{streamRowIn, streamRow}
 
 -- ---- the rows as a list
@@ -161,30 +161,3 @@ mask-none d mask k f = any-not (mistyped mask k) (rowsOf d) 0 (closedRow 0) each
         let h : r < 32 = rw (rows-length d) at g in
         rw (zero-add r, rows-at d r h)
         (failing (hasBit mask r) (not (eqb (rowAt d r .ty) k)) (λ set. false-not (eqb (rowAt d r .ty) k) (eq-eqb (rowAt d r .ty) k (f r h set))))
-
--- ---- what reads one column only
-
-module _ (c d : Rows) where
-  pub same-type : (e : Endpoint) → c .types ≡ d .types → stateAt c e .ty ≡ stateAt d e .ty
-  same-type e p = at (rowOf e)
-    where
-      at : (o : RowOf) → rowIn c o .ty ≡ rowIn d o .ty
-      at (At q) = ap (λ (l : List ℕ). getD l (q .0) 0) p
-      at Malformed = refl
-
-  pub same-streaming : (e : Endpoint) → c .streams ≡ d .streams → stateAt c e .streaming ≡ stateAt d e .streaming
-  same-streaming e p = at (rowOf e)
-    where
-      at : (o : RowOf) → rowIn c o .streaming ≡ rowIn d o .streaming
-      at (At q) = ap (λ (l : List Bool). getD l (q .0) false) p
-      at Malformed = refl
-
-  pub same-touched : (s : Scope) (e : Endpoint) → c .interfaces ≡ d .interfaces → touched c s e ≡ touched d s e
-  unfolding touched
-  same-touched s e p = at s (rowOf e)
-    where
-      at : (s : Scope) (o : RowOf) → touchedIn c s o ≡ touchedIn d s o
-      at NoRow o = refl
-      at EveryRow o = refl
-      at (OfInterface n) (At q) = ap (λ (l : List ℕ). touches (OfInterface n) (q .0) (getD l (q .0) 0)) p
-      at (OfInterface n) Malformed = refl

@@ -5,14 +5,14 @@
 -- (`whole`).
 -- Assumes nothing.
 use mathlib.Core.Path.{_≡_, refl, sym, ap, _∙_}
-use mathlib.Core.Bool.{Bool, true, false, cond}
+use mathlib.Core.Bool.{Bool, true}
 use mathlib.Core.List.{List, [], _∷_, _++_, map, append-assoc, append-nil}
 use mathlib.Core.Option.{Option, none, some}
 use Prim.Native.Nat.{ℕ, _+_, _≤_, min}
 use native.Mathlib.Omega.{arith}
 use lib.ListN.{length, take, drop, length-append, length-map, drop-of-length-le}
-use lib.Dec.{eqb, leb}
-use borrow.Author.Tests.{eqb-true, eqb-false, leb-true}
+use lib.Dec.{eqb}
+use borrow.Author.Tests.{eqb-true, leb-true}
 use borrow.Table.Steps.{cases}
 use Rattle.octets.specs.Little.{bytesOf}
 use Rattle.octets.proofs.Integers.{length-bytes}
@@ -32,7 +32,7 @@ use Rattle.kinds.specs.Slots.{found}
 use Rattle.kinds.proofs.Again.{Octets, octets-take, octets-drop, again, bytes-append}
 use Rattle.packet.specs.declared.Packet.{Packet}
 use Rattle.packet.specs.declared.Fields.{Fields}
-use Rattle.packet.specs.Packet.{Shown, shownOf, inPart, single, rowsIn, columnsIn, contentOf}
+use Rattle.packet.specs.Packet.{Shown, shownOf, inPart, single, columnsIn, contentOf}
 use Rattle.packet.specs.Fields.{inWidths, Lists}
 use Rattle.encoder.specs.Layout.{laidOut}
 use Rattle.encoder.proofs.Outcome.{capped}

@@ -6,7 +6,6 @@ use native.Mathlib.Nat.{add-zero}
 use mathlib.Core.Path.{_≡_, refl}
 use mathlib.Core.Bool.{Bool, true, false, cond, not, _&&_}
 use mathlib.Core.List.{List, [], _∷_}
-use mathlib.Core.Option.{Option, none, some}
 use borrow.Table.Steps.{cases as either}
 use denote.Enum.Declared.{tagOf}
 use types.Run.{OneOf, miss}
@@ -17,15 +16,13 @@ use Rattle.header.specs.declared.Side.{Side}
 use Rattle.header.specs.declared.Side.the-variants.{Guest, Host}
 use Rattle.header.specs.Link.{isGuest}
 use Rattle.kinds.specs.Table.{kinds}
-use Rattle.kinds.specs.Content.{firstNumber}
 use Rattle.kinds.specs.Codec.{layout}
 use Rattle.packet.proofs.Packet.{the-type}
 use Rattle.packet.specs.declared.Interrupt.{Interrupt as InterruptFields}
 use Rattle.packet.specs.declared.Packet.{Packet}
 use Rattle.packet.specs.declared.Packet.the-variants.{Hello, Connect, Disconnect, Reset, InterfaceTable, EndpointTable, SetConfiguration, GetConfiguration, ConfigurationStatus, SetAlt, GetAlt, AltStatus, StartIso, StopIso, IsoStatus, StartInterrupt, StopInterrupt, InterruptStatus, AllocStreams, FreeStreams, StreamsStatus, Cancel, FilterReject, Filter, DisconnectAck, StartBulkReceiving, StopBulkReceiving, BulkReceivingStatus, Control, Bulk, Iso, Interrupt, BufferedBulk}
 use Rattle.packet.proofs.Names.{first-single}
-use Rattle.packet.specs.Packet.{inPart, high, single, contentOf}
-use Rattle.packet.specs.Fields.{orZero}
+use Rattle.packet.specs.Packet.{inPart, high, contentOf}
 use Rattle.packet.proofs.Same.{bulk-count}
 use Rattle.device.specs.Device.{control, iso, bulk, interrupt, startRows}
 use Rattle.requests.specs.declared.Request.{Request}

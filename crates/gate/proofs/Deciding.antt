@@ -23,7 +23,7 @@ use Rattle.session.specs.declared.Session.{Session}
 use Rattle.session.specs.Session.{maxHeld, linkTo, linkOf, heldIn}
 use Rattle.gate.specs.declared.Decided.{Decided}
 use Rattle.gate.specs.Offer.{heldBytes, heldWhole, barred}
-use Rattle.gate.specs.Decide.{endedWith, Lends, Decides}
+use Rattle.gate.specs.Decide.{endedWith, Decides}
 use Rattle.gate.specs.Ready.{Ready}
 use Rattle.gate.proofs.Ready.{ready, held-few, held-whole, more-few}
 use Rattle.gate.proofs.Outcomes.{barred-call, more-call, header-call}

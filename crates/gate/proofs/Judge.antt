@@ -7,7 +7,7 @@ use Prim.Native.Nat.{ℕ}
 use mathlib.Core.Path.{_≡_, refl, sym, ap, _∙_}
 use mathlib.Core.Bool.{true}
 use mathlib.Core.List.{List}
-use mathlib.Core.Option.{Option, none}
+use mathlib.Core.Option.{none}
 use lib.ListN.{drop}
 use lib.Dec.{eqb}
 use borrow.Table.Steps.{cases}
@@ -20,24 +20,22 @@ use Rattle.kinds.specs.Codec.{decode}
 use Rattle.packet.specs.declared.Packet.{Packet}
 use Rattle.packet.specs.Packet.{contentOf}
 use Rattle.decoder.specs.declared.Reading.the-variants.{Refused as Unread, Decoded as Read}
-use Rattle.decoder.specs.Reading.{PacketTold, told, readOf}
+use Rattle.decoder.specs.Reading.{told, readOf}
 use Rattle.decoder.proofs.Decoded.{refusing, passing}
-use Rattle.device.specs.declared.Rows.{Rows}
 use Rattle.requests.specs.Requests.{idsDiffer}
 use Rattle.events.specs.declared.Case.{Case}
 use Rattle.events.specs.Event.{Event, eventOf, caseOf, Shows}
 use Rattle.events.specs.Proper.{transfer-asks, stream-typed}
 use Rattle.checks.specs.declared.Change.{Change}
 use Rattle.checks.specs.declared.Ruling.{Ruling}
-use Rattle.checks.specs.declared.Ruling.the-variants.{Denied, Granted, Pending}
 use Rattle.checks.specs.Checks.{matchOf, numberOf}
 use Rattle.checks.specs.Change.{changeFor, ruledBy, rulingOf}
 use Rattle.checks.specs.Ruled.{settled, ruled}
 use Rattle.checks.proofs.Agree.{Proper, ruled-is}
 use Rattle.session.specs.declared.Session.{Session}
 use Rattle.session.specs.Session.{linkOf}
-use Rattle.session.specs.Step.{applied, nextFor, judged}
-use Rattle.gate.specs.Verdict.{ruledAs, refusedAs, VerdictTold, verdictOf}
+use Rattle.session.specs.Step.{nextFor, judged}
+use Rattle.gate.specs.Verdict.{ruledAs, refusedAs, verdictOf}
 
 module _ (s : Session) (from : Side) (bytes : List ℕ) where
   -- "10 to 24"

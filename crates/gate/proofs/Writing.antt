@@ -5,7 +5,7 @@
 -- Assumes nothing.
 use Prim.Native.Nat.{ℕ}
 use mathlib.Core.Path.{_≡_, refl, sym, ap, _∙_}
-use mathlib.Core.Bool.{Bool, true, false, cond, not, _&&_}
+use mathlib.Core.Bool.{Bool, true, false}
 use mathlib.Core.List.{List, []}
 use lib.ListN.{length, drop}
 use lib.Seq.{slice, take-length}
@@ -23,10 +23,10 @@ use Rattle.packet.proofs.Same.{shown-same}
 use Rattle.encoder.specs.declared.Written.{Written}
 use Rattle.encoder.specs.Written.{Writes}
 use Rattle.session.specs.declared.Session.{Session}
-use Rattle.session.specs.Session.{linkOf, unfit}
+use Rattle.session.specs.Session.{linkOf}
 use Rattle.gate.specs.declared.Handed.{Handed}
 use Rattle.gate.specs.declared.Handed.the-variants.{NoPacket, OnePacket}
-use Rattle.gate.specs.Offer.{isWaiting, bodyIn, dataIn}
+use Rattle.gate.specs.Offer.{bodyIn, dataIn}
 use Rattle.gate.specs.Write.{shut, writeBy, output, outputSize, WritesBy}
 
 -- ---- what is handed out, lent
@@ -48,14 +48,6 @@ module _ {handed : Handed} (bytes : List ℕ) where
       er ∙ ap (λ (q : Part). inPart q body) ep ∙ ap (inPart (restOf p)) (eb ∙ ap (λ (h : Handed). bodyIn h bytes) e) ∙ ap (λ (h : Handed). dataIn h bytes) (sym e)
 
 -- ---- a writer call
-
--- 2 comes last
-pub shut-last : (from : Side) (s : Session) (hello : Bool) {l : Link} {w t : Bool} → unfit s ≡ false → s .head .stopped ≡ false → l ≡ linkOf from s → w ≡ isWaiting l → (w && not hello) ≡ t
-    → cond t 2 0 ≡ shut from s hello
-unfolding shut
-shut-last from s hello e z el ew et =
-    let v : (isWaiting (linkOf from s) && not hello) ≡ _ = ap (λ (x : Bool). x && not hello) (ap isWaiting (sym el) ∙ sym ew) ∙ et in
-    rw (e, z) (ap (λ (x : Bool). cond x 2 0) (sym v))
 
 hello-is : (caps id : ℕ) (p : Packet) (body : List ℕ) → isHello p ≡ eqb (contentOf caps id p body .kind) 0
 unfolding contentOf

@@ -4,16 +4,14 @@
 use mathlib.Core.Path.{_≡_, refl, sym, ap, _∙_}
 use mathlib.Core.Bool.{Bool, true, false, cond, _||_, not}
 use mathlib.Core.List.{List, [], _∷_, map}
-use Prim.Native.Nat.{ℕ, _≤_, _<_}
+use Prim.Native.Nat.{ℕ, _≤_}
 use lib.ListN.{set, List·getD-map, List·getD-eq-default}
 use lib.Seq.{getD-set-other}
 use lib.Dec.{eqb, leb}
 use borrow.Author.Tests.{ne-eqb, leb-true, leb-false}
 use borrow.Table.Steps.{cases}
 use Rattle.octets.specs.Bits.{hasBit}
-use Rattle.header.specs.declared.Side.{Side}
 use Rattle.header.specs.declared.Side.the-variants.{Guest, Host}
-use Rattle.header.specs.Link.{isGuest}
 use Rattle.kinds.specs.Table.{Kind, kinds, kindAt, none-such}
 use Rattle.kinds.specs.Content.{shared, size, neededBit, widths}
 use Rattle.kinds.specs.Number.{sends}

@@ -11,7 +11,7 @@ use mathlib.Core.Logic.{_↔_, _⊎_, inl, inr}
 use mathlib.Core.Option.{Option, none, some, Option·none-ne-some, Option·some-injective}
 use mathlib.Core.Path.{_≡_, refl, sym, ap, subst, _∙_}
 use lib.ListN.{length, getD}
-use lib.Dec.{eqb, leb, ltb, lit<}
+use lib.Dec.{eqb, leb, lit<}
 use lib.Text.{eqt}
 use lib.Bits.{bitAnd, and-shr, and-mod}
 use lib.Pow.{pow-mono, pow-pos, shr-shr}
@@ -26,12 +26,12 @@ use Rattle.header.specs.declared.HelloState.{HelloState}
 use Rattle.header.specs.declared.HelloState.the-variants.{Awaited, Passed}
 use Rattle.header.specs.declared.Link.{Link}
 use Rattle.header.specs.Link.{isGuest, offered, sharedSet, idWidth}
-use Rattle.kinds.specs.Table.{Sender, G, H, B, Bits, always, bit, bits, Rule, any, holding-zero, speed, at-most-32, endpoint-type, status, endpoint, endpoint-in, endpoint-onward, endpoint-out-of-guest, as-endpoint, nonzero, zero-without, Field, Tail, nothing, words, string, payload, payload-onward, Id, id-any, id-zero, Kind, kinds, kindAt, none-such, u8}
+use Rattle.kinds.specs.Table.{Sender, G, H, B, Bits, always, bit, bits, Rule, any, holding-zero, speed, at-most-32, endpoint-type, status, endpoint, endpoint-in, endpoint-onward, endpoint-out-of-guest, as-endpoint, nonzero, zero-without, Field, Tail, nothing, words, string, payload, payload-onward, Id, id-any, id-zero, Kind, kinds, none-such, u8}
 use Rattle.kinds.specs.Content.{Value, Content, shared, size, sizeOf, named, find}
-use Rattle.kinds.specs.Number.{sends, surplus, wideId, complete, dataLength, onwardBit, onward, tailOk, sizeOk, zeroAt, holds, orElse, firstBad, badField, badFields, badTail, badId, bad, isNone, streamsAlone, inOrder, kindNumber, byKind, wireNumber}
+use Rattle.kinds.specs.Number.{sends, surplus, wideId, complete, dataLength, onward, tailOk, sizeOk, zeroAt, holds, orElse, firstBad, badField, badFields, badTail, badId, bad, isNone, streamsAlone, inOrder, kindNumber, byKind, wireNumber}
 use Rattle.kinds.proofs.FieldBytes.{isNone-left, isNone-right}
 use Rattle.kinds.specs.Slots.{found}
-use Rattle.kinds.specs.Formed.{Line, fieldAt, There, Sends, Shared, Sharing, endpointByte, countWith, dataCount, Onward, Follow, Sized, Keeps, EndsInZero, Ruled, StreamsToo, Formed, Numbered, WireExactly, WireNumberIs, OneTableLine, SharedBit, SharedBits, Address}
+use Rattle.kinds.specs.Formed.{Line, Sends, Shared, Sharing, endpointByte, countWith, dataCount, Onward, Follow, Sized, Keeps, EndsInZero, Ruled, StreamsToo, Formed, Numbered, WireExactly, WireNumberIs, OneTableLine, SharedBit, SharedBits, Address}
 
 -- ---- 20
 

@@ -24,7 +24,7 @@ use Rattle.kinds.specs.Table.{Field, Kind, Id, id-any, id-zero, kinds}
 use Rattle.kinds.specs.Content.{Content, shared, size, split, bytes, named, find}
 use Rattle.kinds.specs.Number.{sends, surplus, wideId, complete, tailOk, sizeOk, badFields, badTail, badId, bad, isNone, orElse, streamsAlone, inOrder, kindNumber, wireNumber, byKind}
 use Rattle.kinds.specs.Codec.{layout, contentAt, decode, orNext, readNumber, bodyOf, encode, bodyLength, packetNumber, Accepted}
-use Rattle.kinds.specs.RoundTrip.{RoundTrip, AcceptedComesBack}
+use Rattle.kinds.specs.RoundTrip.{AcceptedComesBack}
 use Rattle.kinds.proofs.FieldBytes.{isNone-left, isNone-right, Fit, fit, round, length-of, rest-back}
 
 -- ---- what a number of 0 says

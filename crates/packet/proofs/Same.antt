@@ -22,7 +22,7 @@ use Rattle.packet.specs.declared.Optional16.{Optional16}
 use Rattle.packet.specs.declared.Optional16.the-variants.{Absent, Present}
 use Rattle.packet.specs.declared.Packet.{Packet}
 use Rattle.packet.specs.declared.Packet.the-variants.{Hello, Connect, Disconnect, Reset, InterfaceTable, EndpointTable, SetConfiguration, GetConfiguration, ConfigurationStatus, SetAlt, GetAlt, AltStatus, StartIso, StopIso, IsoStatus, StartInterrupt, StopInterrupt, InterruptStatus, AllocStreams, FreeStreams, StreamsStatus, Cancel, FilterReject, Filter, DisconnectAck, StartBulkReceiving, StopBulkReceiving, BulkReceivingStatus, Control, Bulk, Iso, Interrupt, BufferedBulk}
-use Rattle.packet.specs.Packet.{optional, high, shownOf, restOf, single, contentOf}
+use Rattle.packet.specs.Packet.{optional, high, shownOf, single, contentOf}
 use Rattle.packet.specs.Fields.{orZero}
 use Rattle.packet.specs.Same.{SamePacket, ShownSame}
 

@@ -14,7 +14,7 @@ use Rattle.kinds.specs.Codec.{layout, Fitting}
 use Rattle.packet.specs.declared.Part.{Part}
 use Rattle.packet.specs.declared.Packet.{Packet}
 use Rattle.packet.specs.declared.Fields.{Fields}
-use Rattle.packet.specs.Packet.{Shown, shownOf, noPart, single}
+use Rattle.packet.specs.Packet.{shownOf, noPart, single}
 
 -- how many fields are there
 abbrev pub given : List (Option ℕ) → ℕ

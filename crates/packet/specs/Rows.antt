@@ -10,11 +10,11 @@ use lib.Dec.{leb, ltb}
 use lib.Text.{eqt}
 use Rattle.octets.specs.Little.{le}
 use Rattle.kinds.specs.Table.{Field}
-use Rattle.kinds.specs.Content.{Value, numbers, split}
+use Rattle.kinds.specs.Content.{Value, numbers}
 use Rattle.kinds.specs.Codec.{layout}
 use Rattle.packet.specs.declared.InterfaceTable.{InterfaceTable}
 use Rattle.packet.specs.declared.EndpointTable.{EndpointTable}
-use Rattle.packet.specs.Packet.{inPart, rowsIn, columnsOf, columnsIn, optional16Of}
+use Rattle.packet.specs.Packet.{inPart, columnsOf, columnsIn, optional16Of}
 use Rattle.packet.specs.declared.InterfaceRow.{InterfaceRow}
 use Rattle.packet.specs.declared.EndpointRow.{EndpointRow}
 use Rattle.packet.specs.declared.Optional32.{Optional32}

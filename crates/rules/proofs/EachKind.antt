@@ -15,7 +15,6 @@ use borrow.Table.Steps.{cases}
 use Rattle.octets.specs.Little.{le}
 use Rattle.octets.specs.Bits.{hasBit}
 use Rattle.octets.proofs.Logic.{and-parts, or-parts}
-use Rattle.endpoint.specs.declared.Endpoint.{Endpoint}
 use Rattle.header.specs.declared.Side.{Side}
 use Rattle.header.specs.Link.{isGuest}
 use Rattle.kinds.specs.Table.{Bits, Field, kinds, kindAt, endpoint-type}

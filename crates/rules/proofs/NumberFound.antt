@@ -13,7 +13,7 @@ use Rattle.header.specs.declared.Link.{Link}
 use Rattle.header.specs.Link.{sharedSet, idWidth}
 use Rattle.kinds.specs.Table.{Kind, kinds, kindAt}
 use Rattle.kinds.specs.Content.{Content, shared, find}
-use Rattle.kinds.specs.Number.{sends, wideId, sizeOk, bad, isNone, streamsAlone, inOrder, kindNumber, byKind, wireNumber}
+use Rattle.kinds.specs.Number.{sends, wideId, bad, isNone, inOrder, kindNumber, byKind, wireNumber}
 use Rattle.kinds.proofs.FieldBytes.{wide-id}
 use Rattle.kinds.specs.Slots.{found, only-hello}
 use Rattle.packet.specs.declared.Packet.{Packet}

@@ -7,32 +7,18 @@ use Prim.Native.Nat.{ℕ, zero, suc, _+_, _≤_, _<_}
 use mathlib.Core.Path.{_≡_, refl, sym, ap, _∙_}
 use mathlib.Core.Bool.{Bool, true, false}
 use mathlib.Core.List.{List, [], _∷_, map}
-use mathlib.Core.Option.{none, some}
 use native.Mathlib.Nat.{add-zero, zero-add, add-suc, suc-add}
 use native.Mathlib.Numerals.{add-one}
 use native.Mathlib.Omega.{arith}
 use lib.ListN.{length, drop, getD, set, drop-of-length-le, length-map}
 use lib.Seq.{drop-cons}
-use Rattle.scan.specs.Scan.{firstAt, exists, anyAt, eachAt}
+use Rattle.scan.specs.Scan.{exists, anyAt, eachAt}
 
 -- what owning an array of structs tells of its list
 pub long-of : {A Y : Type 0} (f : A → Y) (l : List A) (n : ℕ) → length (map f l) ≡ n → length l ≡ n
 long-of f l n e = sym (length-map l f) ∙ e
 
 -- ---- a loop that searches: the rest of the list still holds the answer
-
-module _ {A : Type 0} (p : A → Bool) (l : List A) (i : ℕ) (d : A) where
-  pub first-hit : i < length l → p (getD l i d) ≡ true → firstAt p i (drop i l) ≡ some i
-  unfolding firstAt
-  first-hit h e = rw (drop-cons l i d h, e)
-
-  pub first-miss : i < length l → p (getD l i d) ≡ false → firstAt p i (drop i l) ≡ firstAt p (i + 1) (drop (i + 1) l)
-  unfolding firstAt
-  first-miss h e = rw (add-one, drop-cons l i d h, e)
-
-pub first-none : {A : Type 0} (p : A → Bool) (l : List A) (i : ℕ) → length l ≤ i → firstAt p i (drop i l) ≡ none
-unfolding firstAt
-first-none p l i h = rw (drop-of-length-le l h)
 
 module _ {A : Type 0} (p : A → Bool) (l : List A) (i : ℕ) (d : A) where
   pub exists-hit : i < length l → p (getD l i d) ≡ true → exists p (drop i l) ≡ true

@@ -1,14 +1,14 @@
--- Zeros behind a list change no number of it (`padded-at`, `padded-past`), a number that may not be there is 0 in the code's list as in the content
+-- Zeros behind a list change no number of it (`padded-at`), a number that may not be there is 0 in the code's list as in the content
 -- (`numbers-of`), and the columns of a row are those of the row that it is (`interface-cell`, `endpoint-cell`).
 -- Past its end a list reads as 0: by induction over the list and the index. A number that may not be there goes by its two cases; a row is
 -- replaced by its equal.
 -- Assumes nothing.
-use mathlib.Core.Path.{_≡_, refl, sym, ap, _∙_}
+use mathlib.Core.Path.{_≡_, refl, ap, _∙_}
 use mathlib.Core.List.{List, [], _∷_, map}
-use mathlib.Core.Option.{Option, none, some}
+use mathlib.Core.Option.{Option}
 use Prim.Native.Nat.{ℕ, zero, suc, _≤_}
 use native.Mathlib.Omega.{arith}
-use lib.ListN.{length, getD, List·getD-eq-default}
+use lib.ListN.{length, getD}
 use Rattle.kinds.specs.Content.{firstNumber, padded}
 use Rattle.packet.proofs.Names.{first-single}
 use Rattle.packet.specs.Packet.{optional, single}
@@ -30,25 +30,9 @@ padded-at zero (x ∷ xs) i h = absurd (omega (arith, h))
 padded-at (suc k) (x ∷ xs) zero h = refl
 padded-at (suc k) (x ∷ xs) (suc i) h = padded-at k xs i (omega (arith, h))
 
-padded-length : (k : ℕ) (xs : List ℕ) → length (padded k xs) ≡ k
-padded-length zero xs = refl
-padded-length (suc k) [] = rw (padded-length k [])
-padded-length (suc k) (x ∷ xs) = rw (padded-length k xs)
-
-pub padded-past : (k : ℕ) (xs : List ℕ) (i : ℕ) → k ≤ i → 0 ≡ getD (padded k xs) i 0
-padded-past k xs i h = sym (List·getD-eq-default (padded k xs) 0 {n = i} (rw (padded-length k xs) h))
-
 pub numbers-of : (vs : List (Option ℕ)) → map orZero vs ≡ map firstNumber (map single vs)
 numbers-of [] = refl
 numbers-of (v ∷ vs) = rw (← first-single v, numbers-of vs)
-
--- ---- a number that is none of those below
-
-pub zero-le : (n : ℕ) → 0 ≤ n
-zero-le n = omega arith
-
-pub beyond : (n k : ℕ) → k ≤ n → (n ≡ k → ⊥) → suc k ≤ n
-beyond n k h r = omega arith
 
 -- ---- a row of the code and the row that it is
 

@@ -1,7 +1,6 @@
 // What a host program in another language calls to test the library: plain numbers and byte slices.
 // A side is 0 for the guest, else the host. A hello is its first word, or 4,294,967,296 and more before it has passed.
 ghost use mathlib.Core.Path.{_≡_};
-ghost use mathlib.Core.List.{[], _∷_};
 ghost use lib.ListN.{getD};
 ghost use Rattle.kinds.specs.Codec.{readNumber};
 ghost use Rattle.packet.specs.Fields.{fieldsOf};
@@ -54,19 +53,10 @@ fn link_of(sender: u8, guest: u64, host: u64) -> Link
 }
 
 // Number i of seven, 0 past them.
-fn pick(i: usize, a: u64, b: u64, c: u64, d: u64, e: u64, f: u64, g: u64) -> u64
-    ensures { λ r. ⌜ r ≡ getD (a ∷ b ∷ c ∷ d ∷ e ∷ f ∷ g ∷ []) i 0 ⌝ }
+fn pick(i: usize, xs: [u64; 7]) -> u64
+    ensures { λ r. ⌜ r ≡ getD xs i 0 ⌝ }
 {
-    match i {
-        0 => a,
-        1 => b,
-        2 => c,
-        3 => d,
-        4 => e,
-        5 => f,
-        6 => g,
-        _ => 0,
-    }
+    if i < 7 { xs[i] } else { 0 }
 }
 
 // Field i of those that a packet holds as numbers, in body order; 0 where it is not there.
@@ -75,7 +65,7 @@ fn field_of(caps: u32, p: Packet, i: usize) -> u64
 {
     let f = fields_of(caps, p);
     let xs = f.numbers;
-    if i < 7 { xs[i] } else { 0 }
+    pick(i, xs)
 }
 
 // The number of the bytes of one packet.
@@ -196,13 +186,15 @@ pub extern "C" fn test_probe_interface(
     let r = interface_row(body, InterfaceTable { count: 32, rows }, row);
     pick(
         column,
-        r.interface as u64,
-        r.class as u64,
-        r.subclass as u64,
-        r.protocol as u64,
-        0,
-        0,
-        0,
+        [
+            r.interface as u64,
+            r.class as u64,
+            r.subclass as u64,
+            r.protocol as u64,
+            0,
+            0,
+            0,
+        ],
     )
 }
 
@@ -240,12 +232,14 @@ pub extern "C" fn test_probe_endpoint(
     let maxstreams = r.maxstreams;
     pick(
         column,
-        r.ty as u64,
-        r.interval as u64,
-        r.interface as u64,
-        value16(maxpacket),
-        value32(maxstreams),
-        0,
-        0,
+        [
+            r.ty as u64,
+            r.interval as u64,
+            r.interface as u64,
+            value16(maxpacket),
+            value32(maxstreams),
+            0,
+            0,
+        ],
     )
 }

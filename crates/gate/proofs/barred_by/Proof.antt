@@ -1,6 +1,5 @@
 -- `gate::barred_by` meets its contract: each branch is the one that `barred` takes.
 -- Assumes nothing.
-use mathlib.Core.Path.{_∙_}
 use borrow.Author.Tests.{lt-ltb, le-ltb}
 use Rattle.gate.specs.Offer.{barred}
 use Rattle.gate.proofs.Barred.{barred-by-tests}

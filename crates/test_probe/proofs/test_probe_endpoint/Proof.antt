@@ -8,14 +8,14 @@ use Rattle.test_probe.proofs.test_probe_endpoint.Tie as tie
 endpoint-row-requires : tie.Need-endpoint-row-requires
 endpoint-row-requires c κs = search needs
 
-cast-pick : tie.Need-cast-pick
-cast-pick c = search needs
+cast-t16 : tie.Need-cast-t16
+cast-t16 c = search needs
 
-cast-pick-2 : tie.Need-cast-pick-2
-cast-pick-2 c = search needs
+cast-t17 : tie.Need-cast-t17
+cast-t17 c = search needs
 
-cast-pick-3 : tie.Need-cast-pick-3
-cast-pick-3 c = search needs
+cast-t18 : tie.Need-cast-t18
+cast-t18 c = search needs
 
 value16-requires : tie.Need-value16-requires
 value16-requires c κs = search needs
@@ -34,9 +34,9 @@ test-probe-endpoint-spec =
     tie.close
     (tie.spec
     endpoint-row-requires
-    cast-pick
-    cast-pick-2
-    cast-pick-3
+    cast-t16
+    cast-t17
+    cast-t18
     value16-requires
     value32-requires
     pick-requires

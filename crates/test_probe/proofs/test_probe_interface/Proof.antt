@@ -8,17 +8,17 @@ use Rattle.test_probe.proofs.test_probe_interface.Tie as tie
 interface-row-requires : tie.Need-interface-row-requires
 interface-row-requires c κs = search needs
 
-cast-pick : tie.Need-cast-pick
-cast-pick c = search needs
+cast-t9 : tie.Need-cast-t9
+cast-t9 c = search needs
 
-cast-pick-2 : tie.Need-cast-pick-2
-cast-pick-2 c = search needs
+cast-t10 : tie.Need-cast-t10
+cast-t10 c = search needs
 
-cast-pick-3 : tie.Need-cast-pick-3
-cast-pick-3 c = search needs
+cast-t11 : tie.Need-cast-t11
+cast-t11 c = search needs
 
-cast-pick-4 : tie.Need-cast-pick-4
-cast-pick-4 c = search needs
+cast-t12 : tie.Need-cast-t12
+cast-t12 c = search needs
 
 pick-requires : tie.Need-pick-requires
 pick-requires c κs = search needs
@@ -31,9 +31,9 @@ test-probe-interface-spec =
     tie.close
     (tie.spec
     interface-row-requires
-    cast-pick
-    cast-pick-2
-    cast-pick-3
-    cast-pick-4
+    cast-t9
+    cast-t10
+    cast-t11
+    cast-t12
     pick-requires
     returns)
