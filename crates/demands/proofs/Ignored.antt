@@ -45,9 +45,9 @@ use Rattle.demands.proofs.AlikeHello.{AlikeVerdicts, no-hand, verdict-s
 
 -- ---- a call
 
-nothing-alike : (b : Bool) → AlikeAtHand b [] []
-nothing-alike true = refl
-nothing-alike false = record { count = refl; front = refl; word = λ j l. refl }
+at-hand-same : (b : Bool) (x : List ℕ) → AlikeAtHand b x x
+at-hand-same true x = refl
+at-hand-same false x = record { count = refl; front = refl; word = λ j l. refl }
 
 -- bytes that are the same before some place, where they begin a header there
 start-same : (b : Bool) (x y : List ℕ) → AlikeAtHand b x y → SameStart x y
@@ -128,7 +128,7 @@ module _ (b : Bool) (s : Session) (g h : HelloState) (ag : AlikeHellos (s .head 
         room = completed-length hold piece (heldOf from s) n ∙ room ∙ sym (completed-length keep part (heldOf from twin) m);
         held =
             subst (λ (x : ℕ). AlikeAtHand (begun from (v .session)) (take x (completed hold (heldOf from s) piece n)) (heldBytes from (u .session) (completed keep (heldOf from twin) part m))) (sym zs)
-            (subst (λ (x : ℕ). AlikeAtHand (begun from (v .session)) [] (take x (completed keep (heldOf from twin) part m))) (sym zt) (nothing-alike (begun from (v .session))));
+            (subst (λ (x : ℕ). AlikeAtHand (begun from (v .session)) [] (take x (completed keep (heldOf from twin) part m))) (sym zt) (at-hand-same (begun from (v .session)) []));
         buffer = λ q r i. completed (q i) (c i) (r i) (e i);
       }
 
@@ -207,10 +207,6 @@ step-at from s t a hold keep piece part room count =
     h : HelloState
     h = t .head .host
 
-at-hand-same : (b : Bool) (x : List ℕ) → AlikeAtHand b x x
-at-hand-same true x = refl
-at-hand-same false x = record { count = refl; front = refl; word = λ j l. refl }
-
 held-alike : (d : Side) (s t : Session) → AlikeSessions s t → heldOf d s ≡ heldOf d t
 held-alike Guest s t a = λ i. a .head .held i .guest
 held-alike Host s t a = λ i. a .head .held i .host
@@ -218,8 +214,7 @@ held-alike Host s t a = λ i. a .head .held i .host
 same-reader : SameReader
 same-reader from s t hold piece a =
     let r = subst (λ (u : Session). Stepped true from hold hold piece piece (offerOf from s hold piece) (offerOf from u hold piece)) (alike-is s t a) twins in
-    let q = r .answers in
-    record { session = q .session; number = q .number; taken = q .taken; location = q .location; size = q .size; handed = q .handed; hold = r .buffer refl refl }
+    record { answers = r .answers; hold = r .buffer refl refl }
   where
     g : HelloState
     g = t .head .guest
@@ -243,7 +238,7 @@ same-hello : SameHello
 same-hello from s t hold p q a first none-held e =
     subst (λ (b : Bool). AlikeAnswers b (offerOf from s hold p) (offerOf from t hold q)) first
     (step-at from s t a hold hold p q refl (e .count)
-    (subst (λ (x : List ℕ). AlikeAtHand (begun from s) x (heldBytes from t hold)) (sym zs) (subst (λ (x : List ℕ). AlikeAtHand (begun from s) [] x) (sym zt) (nothing-alike (begun from s))))
+    (subst (λ (x : List ℕ). AlikeAtHand (begun from s) x (heldBytes from t hold)) (sym zs) (subst (λ (x : List ℕ). AlikeAtHand (begun from s) [] x) (sym zt) (at-hand-same (begun from s) [])))
     (subst (λ (x : List ℕ). AlikeAtHand (begun from s) (x ++ p) (heldBytes from t hold ++ q)) (sym zs)
     (subst (λ (x : List ℕ). AlikeAtHand (begun from s) p (x ++ q)) (sym zt) (subst (λ (b : Bool). AlikeAtHand b p q) (sym first) e))) .answers)
   where
@@ -258,7 +253,7 @@ same-hello from s t hold p q a first none-held e =
 same-run : SameRun
 same-run x y [] a e = (a, e)
 same-run x y (c ∷ cs) a e =
-    (q, same-run (next x c) (next y c) cs (q .session) (holds (c .from) (answerTo x c .hold) (answerTo y c .hold) (q .hold)))
+    (q, same-run (next x c) (next y c) cs (q .answers .session) (holds (c .from) (answerTo x c .hold) (answerTo y c .hold) (q .hold)))
   where
     q : AlikeOutcomes (answerTo x c) (answerTo y c)
     q =

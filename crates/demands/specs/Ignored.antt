@@ -51,31 +51,7 @@ pub record AlikeSessions (s t : Session) : Type 0 where
   pub rows : s .rows ≡ t .rows
   pub requests : s .requests ≡ t .requests
 
--- ---- the same call
-
--- the answers are equal, and the sessions alike again
-pub record AlikeOutcomes (o p : Outcome) : Type 0 where
-  pub session : AlikeSessions (o .session) (p .session)
-  pub number : o .number ≡ p .number
-  pub taken : o .taken ≡ p .taken
-  pub location : o .location ≡ p .location
-  pub size : o .size ≡ p .size
-  pub handed : o .handed ≡ p .handed
-  pub hold : o .hold ≡ p .hold
-
-abbrev pub SameReader : Type 0
-SameReader = (from : Side) (s t : Session) (hold piece : List ℕ) → AlikeSessions s t → AlikeOutcomes (offerOf from s hold piece) (offerOf from t hold piece)
-
--- number, bytes put out and all bytes of the output
-pub record SameWriting (from : Side) (s t : Session) (p : Content) (out : List ℕ) : Type 0 where
-  pub number : writeBy from s p (length out) ≡ writeBy from t p (length out)
-  pub size : outputSize from s p (length out) ≡ outputSize from t p (length out)
-  pub output : output from s p out ≡ output from t p out
-
-abbrev pub SameWriter : Type 0
-SameWriter = (from : Side) (s t : Session) (p : Content) (out : List ℕ) → AlikeSessions s t → SameWriting from s t p out
-
--- ---- two hellos
+-- ---- bytes and packets of a direction
 
 -- a direction's bytes from a hello's first on, as far as they have come: 12 bytes of header and 64 of version are the same, and of the words
 -- bits 0 to 7 of the first
@@ -104,15 +80,17 @@ AlikeHanded (some x) (some y) = AlikePackets x y
 abbrev pub begun : Side → Session → Bool
 begun d s = passed (own (linkOf d s))
 
--- a direction's bytes, and what is handed out, before its hello has passed and after
+-- a direction's bytes, where its hello has passed and before
 abbrev pub AlikeAtHand : Bool → List ℕ → List ℕ → Type 0
 AlikeAtHand true a b = a ≡ b
 AlikeAtHand false a b = AlikeBytes a b
 
+-- and what is handed out
 abbrev pub AlikeHandedOut : Bool → Option PacketTold → Option PacketTold → Type 0
 AlikeHandedOut true x y = x ≡ y
 AlikeHandedOut false x y = AlikeHanded x y
 
+-- the answers are equal, but for the words of a hello that is handed out, and the sessions alike again
 pub record AlikeAnswers (b : Bool) (o p : Outcome) : Type 0 where
   pub session : AlikeSessions (o .session) (p .session)
   pub number : o .number ≡ p .number
@@ -120,6 +98,27 @@ pub record AlikeAnswers (b : Bool) (o p : Outcome) : Type 0 where
   pub location : o .location ≡ p .location
   pub size : o .size ≡ p .size
   pub handed : AlikeHandedOut b (o .handed) (p .handed)
+
+-- ---- the same call
+
+-- then all that is handed out is equal, and so is the holding buffer
+pub record AlikeOutcomes (o p : Outcome) : Type 0 where
+  pub answers : AlikeAnswers true o p
+  pub hold : o .hold ≡ p .hold
+
+abbrev pub SameReader : Type 0
+SameReader = (from : Side) (s t : Session) (hold piece : List ℕ) → AlikeSessions s t → AlikeOutcomes (offerOf from s hold piece) (offerOf from t hold piece)
+
+-- number, bytes put out and all bytes of the output
+pub record SameWriting (from : Side) (s t : Session) (p : Content) (out : List ℕ) : Type 0 where
+  pub number : writeBy from s p (length out) ≡ writeBy from t p (length out)
+  pub size : outputSize from s p (length out) ≡ outputSize from t p (length out)
+  pub output : output from s p out ≡ output from t p out
+
+abbrev pub SameWriter : Type 0
+SameWriter = (from : Side) (s t : Session) (p : Content) (out : List ℕ) → AlikeSessions s t → SameWriting from s t p out
+
+-- ---- two hellos
 
 -- with nothing held
 abbrev pub SameHello : Type 0
