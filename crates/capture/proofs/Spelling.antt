@@ -14,6 +14,7 @@ use borrow.Author.Tests.{not-true, not-false, leb-true, ltb-true, ltb-false, eq-
 use lib.ListN.{length, replicate, getD, set, take, drop, length-append, length-drop, length-set, drop-of-length-le}
 use lib.Seq.{sets, slice, take-length, take-all, drop-cons, drop-set-lt, getD-set-same, length-sets}
 use lib.Dec.{eqb, leb, ltb}
+use Rattle.octets.specs.Saturated.{largest}
 use Rattle.octets.proofs.Integers.{sets-append, sets-out}
 use Rattle.octets.proofs.Logic.{and-parts}
 use Rattle.header.specs.declared.Side.{Side}
@@ -24,7 +25,7 @@ use Rattle.capture.specs.declared.Flaw.{Flaw}
 use Rattle.capture.specs.declared.Flaw.the-variants.{Nothing, Start, Long, Digit, Odd}
 use Rattle.capture.proofs.LineLaws.{length-spelt}
 use Rattle.capture.specs.Flaws.{digitsFlaw, flawOf}
-use Rattle.capture.specs.Lines.{startOf, isSpelling, pieceOf, lineOf, Decodes, startsWith, between, isHex, allHex, hexValue, spelt, digits, decimal, largest, Adds, Forms}
+use Rattle.capture.specs.Lines.{startOf, isSpelling, pieceOf, lineOf, Decodes, startsWith, between, isHex, allHex, hexValue, spelt, digits, decimal, Adds, Forms}
 
 -- ---- a prefix
 

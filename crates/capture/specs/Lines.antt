@@ -1,6 +1,6 @@
 -- Document 01, "Report program": what an input line offers, and the lines that the report writes.
 -- Assumes nothing: these are definitions.
-use Prim.Native.Nat.{ℕ, zero, suc, _+_, _-_, _*_, _/_, _%_, min}
+use Prim.Native.Nat.{ℕ, zero, suc, _+_, _-_, _*_, _/_, _%_}
 use Prim.Native.Char.{code}
 use Prim.Native.String.{String, [] as []ˢ, _∷_ as _∷ˢ_}
 use mathlib.Core.Path.{_≡_}
@@ -10,6 +10,7 @@ use mathlib.Core.Option.{Option, none, some}
 use lib.ListN.{length, drop}
 use lib.Seq.{sets}
 use lib.Dec.{eqb, leb, ltb}
+use Rattle.octets.specs.Saturated.{saturated}
 use Rattle.header.specs.declared.Side.{Side}
 use Rattle.header.specs.declared.Side.the-variants.{Guest, Host}
 use Rattle.capture.specs.declared.Line.{Line}
@@ -124,10 +125,7 @@ pub record Forms (line : List ℕ) (at : ℕ) (out : List ℕ) (r : ℕ) (after 
 
 -- ---- as the code forms a line
 
-abbrev pub largest : ℕ
-largest = 18446744073709551615
-
 -- more of a line that starts at `at` and has k bytes so far; told is how many it has then, or the largest number
 pub record Adds (more : List ℕ) (at k : ℕ) (out : List ℕ) (r : ℕ) (after : List ℕ) : Type 0 where
-  pub size : r ≡ min (k + length more) largest
+  pub size : r ≡ saturated k (length more)
   pub output : after ≡ sets out (at + k) more

@@ -1,15 +1,16 @@
 // The report program's lines: an input line decoded, or why it can't be, and the lines that the report writes.
 ghost use mathlib.Core.Path.{_≡_};
-ghost use Prim.Native.Nat.{_+_, _*_, _<_, min};
+ghost use Prim.Native.Nat.{_+_, _*_, _<_};
 ghost use mathlib.Core.Bool.{cond};
 ghost use mathlib.Core.List.{[], _++_};
 ghost use lib.Seq.{sets};
-ghost use Rattle.capture.specs.Lines.{startsWith, between, isHex, allHex, isSpelling, hexValue, spelt, pieceOf, lineOf, Decodes, decimal, sideField, answerLine, totalsLine, badLine, Forms, largest, Adds};
+ghost use Rattle.capture.specs.Lines.{startsWith, between, isHex, allHex, isSpelling, hexValue, spelt, pieceOf, lineOf, Decodes, decimal, sideField, answerLine, totalsLine, badLine, Forms, Adds};
 ghost use Rattle.capture.specs.Flaws.{digitsFlaw, flawOf, badFor, flawLine, errorLines};
 use header::Side;
 use octets::lay;
 use octets::part;
 use octets::put;
+use octets::saturating_add;
 
 // What an input line offers: nothing, or a piece of so many bytes from a side.
 pub enum Line {
@@ -158,17 +159,6 @@ pub fn flaw_of(line: &[u8]) -> Flaw
     Flaw::Start
 }
 
-// a + b, and the largest number where that is more.
-fn saturating_add(a: usize, b: usize) -> usize
-    ensures { λ r. ⌜ r ≡ min (a + b) largest ⌝ }
-{
-    if b <= 18446744073709551615 - a {
-        a + b
-    } else {
-        18446744073709551615
-    }
-}
-
 // Lays more of a line that starts at `at` and has k bytes so far, and tells how many it has then.
 fn add_text(out: &mut [u8], at: usize, k: usize, text: &[u8]) -> usize
     ensures { λ r. ⌜ Adds (now (text .entry)) at k (now (out .entry)) r (now (out .exit)) ⌝ }
@@ -231,11 +221,11 @@ pub fn form_answer(
 }
 
 // Lays the line of the totals at `at`, and tells how many bytes it has.
-pub fn form_totals(out: &mut [u8], at: usize, passed: u64, refused: u64, stopped: bool) -> usize
+pub fn form_totals(out: &mut [u8], at: usize, passed: usize, refused: usize, stopped: bool) -> usize
     ensures { λ r. ⌜ Forms (totalsLine passed refused stopped) at (now (out .entry)) r (now (out .exit)) ⌝ }
 {
-    let a = add_field(out, at, 0, b"passed=", passed);
-    let b = add_field(out, at, a, b" refused=", refused);
+    let a = add_field(out, at, 0, b"passed=", passed as u64);
+    let b = add_field(out, at, a, b" refused=", refused as u64);
     let c = add_field(out, at, b, b" stopped=", stopped as u64);
     add_text(out, at, c, b"\n")
 }
@@ -259,17 +249,17 @@ fn add_where(out: &mut [u8], k: usize, said: bool, text: &[u8]) -> usize
 }
 
 // Lays which line is bad, and the reason.
-fn lay_bad(out: &mut [u8], line: u64, reason: &[u8]) -> usize
+fn lay_bad(out: &mut [u8], line: usize, reason: &[u8]) -> usize
     ensures { λ r. ⌜ Adds (badFor line (now (reason .entry))) 0 0 (now (out .entry)) r (now (out .exit)) ⌝ }
 {
-    let a = add_field(out, 0, 0, b"report: line ", line);
+    let a = add_field(out, 0, 0, b"report: line ", line as u64);
     let b = add_text(out, 0, a, b": ");
     let c = add_text(out, 0, b, reason);
     add_text(out, 0, c, b"\n")
 }
 
 // Lays which line has the flaw, where there is one.
-fn lay_flaw(out: &mut [u8], line: u64, flaw: Flaw) -> usize
+fn lay_flaw(out: &mut [u8], line: usize, flaw: Flaw) -> usize
     ensures { λ r. ⌜ Adds (flawLine line flaw) 0 0 (now (out .entry)) r (now (out .exit)) ⌝ }
 {
     match flaw {
@@ -291,7 +281,7 @@ fn lay_flaw(out: &mut [u8], line: u64, flaw: Flaw) -> usize
 
 // Lays what the report says on standard error at the front of out, and tells how many bytes that are: the line that is bad and why, that a read
 // failed, and that a write failed; nothing where none of it is so.
-pub fn form_errors(out: &mut [u8], line: u64, flaw: Flaw, cut: bool, lost: bool) -> usize
+pub fn form_errors(out: &mut [u8], line: usize, flaw: Flaw, cut: bool, lost: bool) -> usize
     ensures { λ r. ⌜ Forms (errorLines line flaw cut lost) 0 (now (out .entry)) r (now (out .exit)) ⌝ }
 {
     let a = lay_flaw(out, line, flaw);

@@ -8,6 +8,7 @@ ghost use lib.Dec.{leb};
 ghost use lib.Seq.{sets, slice};
 ghost use Rattle.octets.specs.Little.{le, bytesOf};
 ghost use Rattle.octets.specs.Bits.{hasBit};
+ghost use Rattle.octets.specs.Saturated.{saturated};
 
 pub fn minimum(a: usize, b: usize) -> usize
     ensures { λ r. ⌜ r ≡ min a b ⌝ }
@@ -193,6 +194,17 @@ pub fn saturating_sub(a: usize, b: usize) -> usize
     ensures { λ r. ⌜ r ≡ a - b ⌝ }
 {
     if b <= a { a - b } else { 0 }
+}
+
+// a + b, and the largest number where that is more.
+pub fn saturating_add(a: usize, b: usize) -> usize
+    ensures { λ r. ⌜ r ≡ saturated a b ⌝ }
+{
+    if b <= 18446744073709551615 - a {
+        a + b
+    } else {
+        18446744073709551615
+    }
 }
 
 // The bytes from a up to e, as far as there are any.

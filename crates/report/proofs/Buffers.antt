@@ -22,13 +22,13 @@ use mir.Syntax.{w64}
 use mir.Val.{Fits as Holds, SFits, toZ, ofZ}
 use mir.ValLaws.{toZ-ofZ}
 use borrow.Rule.Slice.PartAt.{part-to-end}
+use Rattle.octets.specs.Saturated.{saturated}
 use Rattle.octets.proofs.Integers.{sets-append}
 use Rattle.capture.specs.declared.Flaw.{Flaw}
 use Rattle.capture.specs.declared.Flaw.the-variants.{Nothing, Start, Long, Digit, Odd}
 use Rattle.capture.specs.Lines.{SentPiece, lineOf}
 use Rattle.capture.specs.Flaws.{flawOf, isFlaw}
 use Rattle.capture.proofs.LineLaws.{offersNothing, flawed}
-use Rattle.transcript.specs.Piece.{saturated}
 use Rattle.transcript.specs.declared.Lined.{Lined}
 use Rattle.transcript.specs.declared.NextLine.the-variants.{LineEnd, Wait}
 use Rattle.transcript.specs.Input.{Progress, stepOf, nextOf, LineReports, start as started}

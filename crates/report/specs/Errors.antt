@@ -12,6 +12,7 @@ use lib.ListN.{length, take, drop, length-append, length-drop, length-take, drop
 use lib.Seq.{sets, take-all, take-take}
 use lib.Dec.{eqb, ltb}
 use borrow.Author.Tests.{ltb-true, ltb-false, lt-ltb}
+use Rattle.octets.specs.Saturated.{saturated}
 use Rattle.header.specs.declared.Side.the-variants.{Guest, Host}
 use Rattle.capture.specs.declared.Flaw.{Flaw}
 use Rattle.capture.specs.declared.Flaw.the-variants.{Nothing, Start, Long, Digit, Odd}
@@ -19,7 +20,6 @@ use Rattle.capture.specs.Lines.{SentPiece, startOf, startsWith, lineOf}
 use Rattle.capture.specs.Flaws.{flawOf, isFlaw, errorLines}
 use Rattle.capture.proofs.LineLaws.{offersNothing, flawed}
 use Rattle.transcript.specs.declared.NextLine.the-variants.{LineEnd, Wait}
-use Rattle.transcript.specs.Piece.{saturated}
 use Rattle.transcript.specs.Input.{Progress, stepOf, linesOf, lineEnd, nextOf}
 use Rattle.transcript.proofs.Parts.{next-is, next-within, wait-none, newline-there, newline-missing, last-line, long-bad}
 use Rattle.report.specs.declared.State.{State}

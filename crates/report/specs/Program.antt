@@ -11,12 +11,12 @@ use lib.ListN.{length, take, drop}
 use lib.Seq.{sets}
 use lib.Dec.{eqb, ltb}
 use lib.IntN.{ℤ, pos, negsuc}
+use Rattle.octets.specs.Saturated.{saturated}
 use Rattle.session.specs.Session.{freshSession}
 use Rattle.capture.specs.declared.Flaw.the-variants.{Nothing}
 use Rattle.capture.specs.Lines.{lineOf}
 use Rattle.capture.specs.Flaws.{flawOf, errorLines}
 use Rattle.transcript.specs.declared.NextLine.the-variants.{LineEnd, Wait}
-use Rattle.transcript.specs.Piece.{saturated}
 use Rattle.transcript.specs.Input.{Progress, LineStep, stepOf, totalsOf, nextOf, start}
 use Rattle.report.specs.declared.State.{State}
 

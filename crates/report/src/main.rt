@@ -19,13 +19,13 @@ use libc::STDERR_FILENO;
 use libc::STDIN_FILENO;
 use libc::STDOUT_FILENO;
 use octets::minimum;
+use octets::saturating_add;
 use session::Session;
 use session::fresh_session;
 use transcript::NextLine;
 use transcript::Totals;
 use transcript::next_line;
 use transcript::report_line;
-use transcript::saturating_add;
 
 // The session and the totals; the unread bytes, from start to end of the input buffer, and whether no more come; the bytes of output that
 // are not written yet; whether the input is over; the count of lines so far, and the flaw of the last; and whether a read failed, and a write.
@@ -37,7 +37,7 @@ struct State {
     last: bool,
     size: usize,
     over: bool,
-    lines: u64,
+    lines: usize,
     flaw: Flaw,
     cut: bool,
     lost: bool,

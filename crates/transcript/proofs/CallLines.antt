@@ -12,6 +12,7 @@ use mathlib.Core.List.{List, [], _++_}
 use lib.ListN.{length, drop, length-append, length-drop, drop-of-length-le}
 use lib.Seq.{sets, length-sets, drop-drop}
 use borrow.Author.Tests.{eq-eqb, ne-eqb}
+use Rattle.octets.specs.Saturated.{largest, saturated}
 use Rattle.octets.proofs.Integers.{sets-append}
 use Rattle.header.specs.declared.Header.{Header}
 use Rattle.header.specs.declared.Link.{Link}
@@ -21,12 +22,12 @@ use Rattle.session.specs.Session.{linkOf}
 use Rattle.frame.specs.Frame.{bytesAt}
 use Rattle.gate.specs.declared.Offered.{Offered}
 use Rattle.gate.specs.Offer.{offerOf, outcome}
-use Rattle.capture.specs.Lines.{answerLine, largest, Forms}
+use Rattle.capture.specs.Lines.{answerLine, Forms}
 use Rattle.capture.proofs.Spelling.{sets-cut}
 use Rattle.transcript.specs.declared.Totals.{Totals}
 use Rattle.transcript.specs.declared.Reported.{Reported}
 use Rattle.transcript.specs.declared.CallReported.{CallReported}
-use Rattle.transcript.specs.Piece.{givesLine, lineFor, saturated, counted, Report, reportBy, reportOf, LaysReport, CallReports}
+use Rattle.transcript.specs.Piece.{givesLine, lineFor, counted, Report, reportBy, reportOf, LaysReport, CallReports}
 use Rattle.transcript.proofs.BytesTaken.{call-takes, used-within, used-some, report-empty, report-more}
 
 -- ---- one call

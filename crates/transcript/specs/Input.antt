@@ -8,11 +8,12 @@ use mathlib.Core.Option.{Option, none, some}
 use lib.ListN.{length, replicate}
 use lib.Seq.{sets}
 use lib.Dec.{eqb, ltb}
+use Rattle.octets.specs.Saturated.{largest}
 use Rattle.header.specs.declared.Side.{Side}
 use Rattle.header.specs.declared.Side.the-variants.{Guest, Host}
 use Rattle.session.specs.declared.Session.{Session}
 use Rattle.session.specs.Session.{freshSession}
-use Rattle.capture.specs.Lines.{SentPiece, lineOf, totalsLine, badLine, largest}
+use Rattle.capture.specs.Lines.{SentPiece, lineOf, totalsLine, badLine}
 use Rattle.transcript.specs.declared.Totals.{Totals}
 use Rattle.transcript.specs.declared.Reported.{Reported}
 use Rattle.transcript.specs.declared.Lined.{Lined}

@@ -1,12 +1,13 @@
 -- Document 01, "Report program": what a piece gives in a report.
 -- Assumes nothing: these are definitions.
-use Prim.Native.Nat.{ℕ, zero, suc, _+_, min}
+use Prim.Native.Nat.{ℕ, zero, suc, min}
 use mathlib.Core.Path.{_≡_}
 use mathlib.Core.Bool.{Bool, cond, not, _||_}
 use mathlib.Core.List.{List, [], _∷_, _++_}
 use lib.ListN.{length, drop}
 use lib.Seq.{sets}
 use lib.Dec.{eqb}
+use Rattle.octets.specs.Saturated.{largest, saturated}
 use Rattle.header.specs.declared.Side.{Side}
 use Rattle.header.specs.declared.Link.{Link}
 use Rattle.header.specs.Header.{kindOf, lengthOf, idOf}
@@ -14,7 +15,7 @@ use Rattle.session.specs.declared.Session.{Session}
 use Rattle.session.specs.Session.{linkOf}
 use Rattle.frame.specs.Frame.{bytesAt}
 use Rattle.gate.specs.Offer.{Outcome, offerOf}
-use Rattle.capture.specs.Lines.{answerLine, largest}
+use Rattle.capture.specs.Lines.{answerLine}
 use Rattle.transcript.specs.declared.Totals.{Totals}
 use Rattle.transcript.specs.declared.Reported.{Reported}
 use Rattle.transcript.specs.declared.CallReported.{CallReported}
@@ -34,10 +35,6 @@ lineAt from l n bytes = answerLine from (kindOf bytes) (lengthOf bytes) (idOf l 
 
 abbrev pub lineFor : Side → Link → Outcome → List ℕ → List ℕ
 lineFor from l o rest = cond (givesLine (o .number)) (lineAt from l (o .number) (bytesAt (o .location) (o .size) rest (o .hold))) []
-
--- a + b, and the largest number where that is more
-abbrev pub saturated : ℕ → ℕ → ℕ
-saturated a b = min (a + b) largest
 
 -- "then totals": 0 counts as passed, and every other answer that has a line as refused. A count that is full stays so.
 abbrev pub counted : Totals → ℕ → Totals

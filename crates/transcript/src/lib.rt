@@ -3,7 +3,7 @@
 ghost use mathlib.Core.Path.{_≡_};
 ghost use Rattle.gate.specs.Offer.{offerOf};
 ghost use Rattle.capture.specs.Lines.{lineOf};
-ghost use Rattle.transcript.specs.Piece.{givesLine, saturated, counted, reportOf, LaysReport, CallReports};
+ghost use Rattle.transcript.specs.Piece.{givesLine, counted, reportOf, LaysReport, CallReports};
 ghost use Rattle.transcript.specs.Input.{stepOf, lineEnd, nextOf, PieceReports, LineReports};
 use capture::Line;
 use capture::decode_line;
@@ -14,13 +14,14 @@ use gate::offer;
 use header::Side;
 use header::read_header;
 use octets::part;
+use octets::saturating_add;
 use session::Session;
 use session::link_to;
 
 // The answers that have a line: passed, and refused.
 pub struct Totals {
-    pub passed: u64,
-    pub refused: u64,
+    pub passed: usize,
+    pub refused: usize,
 }
 
 // The session and the totals after a piece, and the bytes that its lines have.
@@ -53,17 +54,6 @@ fn gives_line(number: u8) -> bool
     ensures { λ r. ⌜ r ≡ givesLine number ⌝ }
 {
     !((number == 1) | (number == 2) | (number == 3) | (number == 41) | (number == 43))
-}
-
-// a + b, and the largest number where that is more.
-pub fn saturating_add(a: u64, b: u64) -> u64
-    ensures { λ r. ⌜ r ≡ saturated a b ⌝ }
-{
-    if b <= 18446744073709551615 - a {
-        a + b
-    } else {
-        18446744073709551615
-    }
 }
 
 fn count(t: Totals, number: u8) -> Totals
@@ -108,7 +98,7 @@ fn report_call(
     let h = read_header(link_to(head, from), bytes_of(answer, rest, hold));
     let line = form_answer(out, r.size, from, h.kind, h.length, h.id, answer.number);
     let totals = count(totals, answer.number);
-    let size = saturating_add(r.size as u64, line as u64) as usize;
+    let size = saturating_add(r.size, line);
     let reported = Reported {
         session,
         totals,

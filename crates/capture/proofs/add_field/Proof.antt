@@ -4,7 +4,7 @@ use Prim.Native.Nat.{_≤_}
 use native.Mathlib.Omega.{arith}
 use lib.ListN.{length}
 use borrow.Author.Needs.{needs}
-use Rattle.capture.specs.Lines.{largest}
+use Rattle.octets.specs.Saturated.{largest}
 use Rattle.capture.proofs.Spelling.{adds-then}
 use Rattle.capture.proofs.add_field.Statement.{statement}
 use Rattle.capture.proofs.add_field.Tie as tie

@@ -5,7 +5,7 @@ use Prim.Native.Nat.{_+_, _≤_}
 use native.Mathlib.Omega.{arith}
 use lib.ListN.{length}
 use borrow.Author.Needs.{needs}
-use Rattle.capture.specs.Lines.{largest}
+use Rattle.octets.specs.Saturated.{largest}
 use Rattle.capture.proofs.Spelling.{sets-cut}
 use Rattle.capture.proofs.add_text.Statement.{statement}
 use Rattle.capture.proofs.add_text.Tie as tie

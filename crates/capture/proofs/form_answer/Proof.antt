@@ -4,7 +4,8 @@ use Prim.Native.Nat.{_≤_}
 use native.Mathlib.Omega.{arith}
 use lib.ListN.{length}
 use borrow.Author.Needs.{needs}
-use Rattle.capture.specs.Lines.{largest, answerLine}
+use Rattle.octets.specs.Saturated.{largest}
+use Rattle.capture.specs.Lines.{answerLine}
 use Rattle.capture.proofs.LineLaws.{answer-short}
 use Rattle.capture.proofs.Spelling.{adds-then, forms-all}
 use Rattle.capture.proofs.form_answer.Statement.{statement}

@@ -7,7 +7,8 @@ use native.Mathlib.Omega.{arith}
 use lib.ListN.{length}
 use mir.Val.{boolByte}
 use borrow.Author.Needs.{needs}
-use Rattle.capture.specs.Lines.{largest, totalsLine}
+use Rattle.octets.specs.Saturated.{largest}
+use Rattle.capture.specs.Lines.{totalsLine}
 use Rattle.capture.proofs.LineLaws.{totals-short}
 use Rattle.capture.proofs.Spelling.{adds-then, forms-all}
 use Rattle.capture.proofs.form_totals.Statement.{statement}

@@ -3,7 +3,7 @@
 use Prim.Native.Nat.{_≤_}
 use native.Mathlib.Omega.{arith}
 use lib.ListN.{length}
-use Rattle.capture.specs.Lines.{largest}
+use Rattle.octets.specs.Saturated.{largest}
 use Rattle.capture.proofs.Spelling.{adds-then}
 use borrow.Author.Needs.{needs}
 use Rattle.capture.proofs.lay_bad.Statement.{statement}

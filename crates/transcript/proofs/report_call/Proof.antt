@@ -4,7 +4,7 @@ use mathlib.Core.Path.{sym, _∙_}
 use Prim.Native.Nat.{_≤_}
 use borrow.Author.Needs.{needs}
 use borrow.Author.Tests.{not-true, not-false}
-use Rattle.capture.specs.Lines.{largest}
+use Rattle.octets.specs.Saturated.{largest}
 use Rattle.transcript.proofs.CallLines.{call-no-line, call-told}
 use Rattle.transcript.proofs.report_call.Statement.{statement}
 use Rattle.transcript.proofs.report_call.Tie as tie

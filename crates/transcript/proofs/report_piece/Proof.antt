@@ -7,7 +7,7 @@ use borrow.Author.Needs.{needs}
 use lib.ListN.{length}
 use lib.Seq.{length-sets}
 use borrow.Rule.Slice.PartAt.{part-to-end}
-use Rattle.capture.specs.Lines.{largest}
+use Rattle.octets.specs.Saturated.{largest}
 use Rattle.transcript.proofs.CallLines.{Reporting, report-starts, used-few, used-more, report-goes-on, report-ends}
 use Rattle.transcript.proofs.report_piece.Statement.{statement}
 use Rattle.transcript.proofs.report_piece.Tie as tie
