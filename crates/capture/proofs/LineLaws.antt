@@ -1,12 +1,13 @@
 -- What a line can be, for those who call the functions: how long (`line-short`, `answer-short`, `totals-short`, `errors-short`), what was offered by
--- what was told (`told-bad`, `told-piece`), and that it has a flaw exactly where nothing is offered (`flawed`).
+-- what was told (`told-bad`, `told-piece`), and that it has a flaw exactly where nothing is offered (`flawed`), as digits have exactly where they
+-- are no spelling (`spells-not`).
 -- Two digits spell a byte (`length-spelt`), and a good line has at most 4,096 of them; a number has at most 20 digits, by induction over their
 -- count, and the lengths of a line's parts are added up. What is told is bad exactly where nothing is offered; and with room for 2,048 bytes,
 -- what was laid is the output's front.
 -- Assumes nothing.
 use Prim.Native.Nat.{ℕ, zero, suc, _+_, _/_, _%_, _≤_}
 use mathlib.Core.Path.{_≡_, refl, sym, ap, _∙_}
-use mathlib.Core.Bool.{Bool, true, false, cond, _&&_, and-false}
+use mathlib.Core.Bool.{Bool, true, false, cond, not, _&&_, and-false, false≢true}
 use mathlib.Core.List.{List, [], _∷_, _++_}
 use mathlib.Core.Option.{Option, none, some}
 use native.Mathlib.Omega.{arith}
@@ -56,33 +57,31 @@ line-short line =
     go true x y h k = h
     go false x y h k = k
 
-offered-none : (p : Option SentPiece) → Bad ≡ toldOf p → p ≡ none
-offered-none none e = refl
-offered-none (some p) e =
+offered-none : (p : Option SentPiece) (f : Flaw) {g : Flaw} → Bad g ≡ toldOf p f → p ≡ none
+offered-none none f e = refl
+offered-none (some p) f e =
     let z : _≡_ {A = ℕ} 0 1 = cc in
     absurd (omega arith)
 
-offered-some : (p : Option SentPiece) {from : Side} {n : ℕ} → Piece from n ≡ toldOf p
+offered-some : (p : Option SentPiece) (f : Flaw) {from : Side} {n : ℕ} → Piece from n ≡ toldOf p f
     → (p ≡ some (record { from = from; bytes = offeredBytes p })) × (length (offeredBytes p) ≡ n)
-offered-some none e =
+offered-some none f e =
     let z : _≡_ {A = ℕ} 0 1 = cc in
     absurd (omega arith)
-offered-some (some p) {from} {n} e =
+offered-some (some p) f {from} {n} e =
     let q : p .from ≡ from = cc in
     let l : length (p .bytes) ≡ n = cc in
     (ap (λ (f : Side). some (record { from = f; bytes = p .bytes })) q, l)
 
-module _ (line : List ℕ) {out after : List ℕ} {r : Line} (d : Decodes (lineOf line) out r after) where
-  pub told-bad : r ≡ Bad → (lineOf line ≡ none) × (after ≡ out)
-  told-bad e =
-      let q = offered-none (lineOf line) (sym e ∙ d .told) in
-      (q, d .output ∙ ap (λ (p : Option SentPiece). laidOf p out) q)
+module _ (line : List ℕ) {f : Flaw} {out after : List ℕ} {r : Line} (d : Decodes (lineOf line) f out r after) where
+  pub told-bad : {g : Flaw} → r ≡ Bad g → lineOf line ≡ none
+  told-bad e = offered-none (lineOf line) f (sym e ∙ d .told)
 
   -- where the output has room for every piece, what was offered stands at its front
   pub told-piece : {from : Side} {n : ℕ} → r ≡ Piece from n → 2048 ≤ length out
       → (lineOf line ≡ some (record { from = from; bytes = take n after })) × (n ≤ 2048)
   told-piece {from} {n} e room =
-      let q = offered-some (lineOf line) (sym e ∙ d .told) in
+      let q = offered-some (lineOf line) f (sym e ∙ d .told) in
       let b = offeredBytes (lineOf line) in
       let s = line-short line in
       let l : after ≡ b ++ drop (0 + length b) out = d .output ∙ ap (λ (p : Option SentPiece). laidOf p out) (q .0) ∙ sets-eq b out 0 (omega arith) in
@@ -120,16 +119,30 @@ abbrev pub offersNothing : Option SentPiece → Bool
 offersNothing none = true
 offersNothing (some p) = false
 
-digits-flawed : (from : Side) (s : List ℕ) → isFlaw (digitsFlaw s) ≡ offersNothing (pieceOf from s)
-digits-flawed from s = go (ltb 4096 (length s)) refl (allHex s) (eqb (length s % 2) 0)
+pub no-flaw : (f : Flaw) → isFlaw f ≡ false → f ≡ Nothing
+no-flaw Nothing t = refl
+no-flaw Start t = absurd (false≢true (sym t))
+no-flaw Long t = absurd (false≢true (sym t))
+no-flaw Digit t = absurd (false≢true (sym t))
+no-flaw Odd t = absurd (false≢true (sym t))
+
+-- digits have a flaw exactly where they are no spelling
+pub spells-not : (s : List ℕ) → isFlaw (digitsFlaw s) ≡ not (isSpelling s)
+spells-not s = go (ltb 4096 (length s)) refl (allHex s) (eqb (length s % 2) 0)
   where
     go : (l : Bool) → ltb 4096 (length s) ≡ l → (a e : Bool)
-        → isFlaw (cond l Long (cond a (cond e Nothing Odd) Digit))
-        ≡ offersNothing (cond (a && e && leb (length s) 4096) (some (record { from = from; bytes = spelt s })) none)
+        → isFlaw (cond l Long (cond a (cond e Nothing Odd) Digit)) ≡ not (a && e && leb (length s) 4096)
     go true t a e = rw (lt-leb (length s) 4096 (ltb-true 4096 (length s) t), and-false (a && e))
     go false t true true = rw (le-leb (length s) 4096 (ltb-false 4096 (length s) t))
     go false t true false = refl
     go false t false e = refl
+
+digits-flawed : (from : Side) (s : List ℕ) → isFlaw (digitsFlaw s) ≡ offersNothing (pieceOf from s)
+digits-flawed from s = spells-not s ∙ go (isSpelling s)
+  where
+    go : (b : Bool) → not b ≡ offersNothing (cond b (some (record { from = from; bytes = spelt s })) none)
+    go true = refl
+    go false = refl
 
 -- a line has a flaw exactly where it offers nothing
 pub flawed : (line : List ℕ) → isFlaw (flawOf line) ≡ offersNothing (lineOf line)

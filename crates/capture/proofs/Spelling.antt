@@ -1,5 +1,5 @@
 -- What the proofs of this crate's functions cite: what one turn of a loop does to a prefix, to digits, to the bytes that they spell and to a
--- decimal; what each branch of `decode_line` has decoded and of `flaw_of` has found; and that a part of a line laid behind another is one part with it (`adds-then`).
+-- decimal; what each branch of `decode_line` has decoded and of `digits_flaw` has found; and that a part of a line laid behind another is one part with it (`adds-then`).
 -- A turn is stated of the rest of a list, from i on: `drop-cons` splits its first element off, and the definition computes one step. Of a decimal
 -- `Making` says that the digits made, with those of n / 10 in front, are all, and that n has at most i + 1 digits: so 20 places are enough.
 -- Assumes nothing.
@@ -23,8 +23,8 @@ use Rattle.capture.specs.declared.Line.{Line}
 use Rattle.capture.specs.declared.Line.the-variants.{Bad, Piece}
 use Rattle.capture.specs.declared.Flaw.{Flaw}
 use Rattle.capture.specs.declared.Flaw.the-variants.{Nothing, Start, Long, Digit, Odd}
-use Rattle.capture.proofs.LineLaws.{length-spelt}
-use Rattle.capture.specs.Flaws.{digitsFlaw, flawOf}
+use Rattle.capture.proofs.LineLaws.{length-spelt, no-flaw, spells-not}
+use Rattle.capture.specs.Flaws.{digitsFlaw, flawOf, isFlaw}
 use Rattle.capture.specs.Lines.{startOf, isSpelling, pieceOf, lineOf, Decodes, startsWith, between, isHex, allHex, hexValue, spelt, digits, decimal, Adds, Forms}
 
 -- ---- a prefix
@@ -94,34 +94,40 @@ spelt-step out s i x h e =
 
 -- ---- an input line
 
-pub decodes-piece : (from : Side) (s : List ℕ) {out after : List ℕ} → isSpelling s ≡ true → after ≡ sets out 0 (spelt s)
-    → Decodes (pieceOf from s) out (Piece from (length s / 2)) after
-decodes-piece from s h e = rw h (record { told = ap (Piece from) (sym (length-spelt s)); output = e })
+module _ (from : Side) (s : List ℕ) {out : List ℕ} {f : Flaw} (ef : f ≡ digitsFlaw s) where
+  pub decodes-piece : {after : List ℕ} → isFlaw f ≡ false → after ≡ sets out 0 (spelt s)
+      → Decodes (pieceOf from s) (digitsFlaw s) out (Piece from (length s / 2)) after
+  decodes-piece t e =
+      let n : isFlaw (digitsFlaw s) ≡ false = sym (ap isFlaw ef) ∙ t in
+      let h : isSpelling s ≡ true = not-false (isSpelling s) (sym (spells-not s) ∙ n) in
+      rw h (record { told = ap (Piece from) (sym (length-spelt s)); why = sym (no-flaw (digitsFlaw s) n); output = e })
 
-pub decodes-nothing : (from : Side) (s : List ℕ) {out : List ℕ} → isSpelling s ≡ false → Decodes (pieceOf from s) out Bad out
-decodes-nothing from s h = rw h (record { told = refl; output = refl })
+  pub decodes-nothing : isFlaw f ≡ true → Decodes (pieceOf from s) (digitsFlaw s) out (Bad f) out
+  decodes-nothing t =
+      let h : isSpelling s ≡ false = not-true (isSpelling s) (sym (spells-not s) ∙ sym (ap isFlaw ef) ∙ t) in
+      rw h (record { told = ap Bad ef; why = ef; output = refl })
 
 module _ (line : List ℕ) {out : List ℕ} where
   pub decodes-guest : {s after : List ℕ} {r : Line} → startsWith (startOf Guest) line ≡ true → s ≡ slice 17 (length line) line
-      → Decodes (pieceOf Guest s) out r after
-      → Decodes (lineOf line) out r after
-  unfolding lineOf
+      → Decodes (pieceOf Guest s) (digitsFlaw s) out r after
+      → Decodes (lineOf line) (flawOf line) out r after
+  unfolding lineOf flawOf
   decodes-guest h e d = rw h (rw (e, take-length line) at d)
 
   pub decodes-host : {s after : List ℕ} {r : Line} → startsWith (startOf Guest) line ≡ false
       → startsWith (startOf Host) line ≡ true
       → s ≡ slice 16 (length line) line
-      → Decodes (pieceOf Host s) out r after
-      → Decodes (lineOf line) out r after
-  unfolding lineOf
+      → Decodes (pieceOf Host s) (digitsFlaw s) out r after
+      → Decodes (lineOf line) (flawOf line) out r after
+  unfolding lineOf flawOf
   decodes-host g h e d = rw (g, h) (rw (e, take-length line) at d)
 
   pub decodes-other : startsWith (startOf Guest) line ≡ false → startsWith (startOf Host) line ≡ false
-      → Decodes (lineOf line) out Bad out
-  unfolding lineOf
-  decodes-other g h = rw (g, h) (record { told = refl; output = refl })
+      → Decodes (lineOf line) (flawOf line) out (Bad Start) out
+  unfolding lineOf flawOf
+  decodes-other g h = rw (g, h) (record { told = refl; why = refl; output = refl })
 
--- ---- the flaw of a line
+-- ---- the flaw of digits
 
 module _ (s : List ℕ) where
   pub flaw-long : 4096 < length s → Long ≡ digitsFlaw s
@@ -136,22 +142,6 @@ module _ (s : List ℕ) where
 
     pub flaw-odd : not (allHex s) ≡ false → (length s % 2 ≡ 0 → ⊥) → Odd ≡ digitsFlaw s
     flaw-odd t e = rw (le-ltb 4096 (length s) h, not-false (allHex s) t, ne-eqb (length s % 2) 0 e)
-
-module _ (line : List ℕ) where
-  pub flaw-guest : {s : List ℕ} {r : Flaw} → startsWith (startOf Guest) line ≡ true → s ≡ slice 17 (length line) line → r ≡ digitsFlaw s
-      → r ≡ flawOf line
-  unfolding flawOf
-  flaw-guest h e d = rw h (rw (e, take-length line) at d)
-
-  pub flaw-host : {s : List ℕ} {r : Flaw} → startsWith (startOf Guest) line ≡ false → startsWith (startOf Host) line ≡ true
-      → s ≡ slice 16 (length line) line → r ≡ digitsFlaw s
-      → r ≡ flawOf line
-  unfolding flawOf
-  flaw-host g h e d = rw (g, h) (rw (e, take-length line) at d)
-
-  pub flaw-start : startsWith (startOf Guest) line ≡ false → startsWith (startOf Host) line ≡ false → Start ≡ flawOf line
-  unfolding flawOf
-  flaw-start g h = rw (g, h)
 
 -- ---- a line, laid part by part
 

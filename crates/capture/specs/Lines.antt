@@ -13,6 +13,8 @@ use lib.Dec.{eqb, leb, ltb}
 use Rattle.octets.specs.Saturated.{saturated}
 use Rattle.header.specs.declared.Side.{Side}
 use Rattle.header.specs.declared.Side.the-variants.{Guest, Host}
+use Rattle.capture.specs.declared.Flaw.{Flaw}
+use Rattle.capture.specs.declared.Flaw.the-variants.{Nothing}
 use Rattle.capture.specs.declared.Line.{Line}
 use Rattle.capture.specs.declared.Line.the-variants.{Bad, Piece}
 
@@ -79,17 +81,24 @@ lineOf l =
     (cond (startsWith (startOf Host) l) (pieceOf Host (drop (length (startOf Host)) l))
     none)
 
-abbrev pub toldOf : Option SentPiece → Line
-toldOf none = Bad
-toldOf (some p) = Piece (p .from) (length (p .bytes))
+-- what is told: who sends the piece, and its size; or the flaw of a line that offers none
+abbrev pub toldOf : Option SentPiece → Flaw → Line
+toldOf none flaw = Bad flaw
+toldOf (some p) flaw = Piece (p .from) (length (p .bytes))
+
+-- the flaw that is told; none with a piece
+abbrev pub flawTold : Line → Flaw
+flawTold (Bad flaw) = flaw
+flawTold (Piece from n) = Nothing
 
 -- the bytes stand at the front of the output, as far as it goes; a bad line leaves it as it was
 abbrev pub laidOf : Option SentPiece → List ℕ → List ℕ
 laidOf none out = out
 laidOf (some p) out = sets out 0 (p .bytes)
 
-pub record Decodes (p : Option SentPiece) (out : List ℕ) (r : Line) (after : List ℕ) : Type 0 where
-  pub told : r ≡ toldOf p
+pub record Decodes (p : Option SentPiece) (flaw : Flaw) (out : List ℕ) (r : Line) (after : List ℕ) : Type 0 where
+  pub told : r ≡ toldOf p flaw
+  pub why : flawTold r ≡ flaw
   pub output : after ≡ laidOf p out
 
 -- ---- the report's lines, each with its newline

@@ -4,19 +4,13 @@ ghost use Prim.Native.Nat.{_+_, _*_, _<_};
 ghost use mathlib.Core.Bool.{cond};
 ghost use mathlib.Core.List.{[], _++_};
 ghost use lib.Seq.{sets};
-ghost use Rattle.capture.specs.Lines.{startsWith, between, isHex, allHex, isSpelling, hexValue, spelt, pieceOf, lineOf, Decodes, decimal, sideField, answerLine, totalsLine, badLine, Forms, Adds};
-ghost use Rattle.capture.specs.Flaws.{digitsFlaw, flawOf, badFor, flawLine, errorLines};
+ghost use Rattle.capture.specs.Lines.{startsWith, between, isHex, allHex, hexValue, spelt, pieceOf, lineOf, Decodes, decimal, sideField, answerLine, totalsLine, badLine, Forms, Adds};
+ghost use Rattle.capture.specs.Flaws.{digitsFlaw, flawOf, isFlaw, badFor, flawLine, errorLines};
 use header::Side;
 use octets::lay;
 use octets::part;
 use octets::put;
 use octets::saturating_add;
-
-// What an input line offers: nothing, or a piece of so many bytes from a side.
-pub enum Line {
-    Bad,
-    Piece(Side, usize),
-}
 
 // Why a line can't be decoded: it starts otherwise; it has too many digits; one of them is none; or their count is odd. Nothing of a good line.
 pub enum Flaw {
@@ -25,6 +19,25 @@ pub enum Flaw {
     Long,
     Digit,
     Odd,
+}
+
+// What an input line offers: nothing, and why; or a piece of so many bytes from a side.
+pub enum Line {
+    Bad(Flaw),
+    Piece(Side, usize),
+}
+
+// Whether a line is bad, by its flaw.
+pub fn is_flaw(f: Flaw) -> bool
+    ensures { λ r. ⌜ r ≡ isFlaw f ⌝ }
+{
+    match f {
+        Flaw::Nothing => false,
+        Flaw::Start => true,
+        Flaw::Long => true,
+        Flaw::Digit => true,
+        Flaw::Odd => true,
+    }
 }
 
 fn starts_with(line: &[u8], prefix: &[u8]) -> bool
@@ -68,11 +81,20 @@ fn all_hex(s: &[u8]) -> bool
     true
 }
 
-// An even count of digits, at most 4,096.
-fn is_spelling(s: &[u8]) -> bool
-    ensures { λ r. ⌜ r ≡ isSpelling (now (s .entry)) ⌝ }
+// The flaw of what stands behind `bytes=`. That it is too long is told first, so that the rest of such a line need not be known.
+fn digits_flaw(s: &[u8]) -> Flaw
+    ensures { λ r. ⌜ r ≡ digitsFlaw (now (s .entry)) ⌝ }
 {
-    all_hex(s) & (s.len() % 2 == 0) & (s.len() <= 4096)
+    if 4096 < s.len() {
+        return Flaw::Long;
+    }
+    if !all_hex(s) {
+        return Flaw::Digit;
+    }
+    if s.len() % 2 == 0 {
+        return Flaw::Nothing;
+    }
+    Flaw::Odd
 }
 
 // The value of a digit; 0 of any other byte.
@@ -108,18 +130,20 @@ fn lay_spelt(s: &[u8], out: &mut [u8])
 
 // Decodes what stands behind `bytes=`. The digits are tested first, so that a bad line lays nothing.
 fn decode_piece(from: Side, s: &[u8], out: &mut [u8]) -> Line
-    ensures { λ r. ⌜ Decodes (pieceOf from (now (s .entry))) (now (out .entry)) r (now (out .exit)) ⌝ }
+    ensures { λ r. ⌜ Decodes (pieceOf from (now (s .entry))) (digitsFlaw (now (s .entry))) (now (out .entry)) r (now (out .exit)) ⌝ }
 {
-    if is_spelling(s) {
-        lay_spelt(s, out);
-        return Line::Piece(from, s.len() / 2);
+    let flaw = digits_flaw(s);
+    if is_flaw(flaw) {
+        return Line::Bad(flaw);
     }
-    Line::Bad
+    lay_spelt(s, out);
+    Line::Piece(from, s.len() / 2)
 }
 
-// Decodes a line, without its newline: its bytes are laid at the front of out, and their count is told. A bad line changes nothing.
+// Decodes a line, without its newline: its bytes are laid at the front of out, and their count is told. A bad line changes nothing, and its
+// flaw is told.
 pub fn decode_line(line: &[u8], out: &mut [u8]) -> Line
-    ensures { λ r. ⌜ Decodes (lineOf (now (line .entry))) (now (out .entry)) r (now (out .exit)) ⌝ }
+    ensures { λ r. ⌜ Decodes (lineOf (now (line .entry))) (flawOf (now (line .entry))) (now (out .entry)) r (now (out .exit)) ⌝ }
 {
     if starts_with(line, b"from=guest bytes=") {
         return decode_piece(Side::Guest, part(line, 17, line.len()), out);
@@ -127,36 +151,7 @@ pub fn decode_line(line: &[u8], out: &mut [u8]) -> Line
     if starts_with(line, b"from=host bytes=") {
         return decode_piece(Side::Host, part(line, 16, line.len()), out);
     }
-    Line::Bad
-}
-
-// The flaw of what stands behind `bytes=`. That it is too long is told first, so that the rest of such a line need not be known.
-fn digits_flaw(s: &[u8]) -> Flaw
-    ensures { λ r. ⌜ r ≡ digitsFlaw (now (s .entry)) ⌝ }
-{
-    if 4096 < s.len() {
-        return Flaw::Long;
-    }
-    if !all_hex(s) {
-        return Flaw::Digit;
-    }
-    if s.len() % 2 == 0 {
-        return Flaw::Nothing;
-    }
-    Flaw::Odd
-}
-
-// The flaw of a line, without its newline.
-pub fn flaw_of(line: &[u8]) -> Flaw
-    ensures { λ r. ⌜ r ≡ flawOf (now (line .entry)) ⌝ }
-{
-    if starts_with(line, b"from=guest bytes=") {
-        return digits_flaw(part(line, 17, line.len()));
-    }
-    if starts_with(line, b"from=host bytes=") {
-        return digits_flaw(part(line, 16, line.len()));
-    }
-    Flaw::Start
+    Line::Bad(Flaw::Start)
 }
 
 // Lays more of a line that starts at `at` and has k bytes so far, and tells how many it has then.

@@ -9,7 +9,6 @@ use native.Mathlib.Omega.{arith}
 use mathlib.Core.Path.{_≡_, refl, sym, ap, _∙_}
 use mathlib.Core.Bool.{Bool, true, false, cond, not, _&&_, _||_, and-true, or-false, false≢true}
 use mathlib.Core.Logic.{_⊎_, inl, inr}
-use mathlib.Core.Option.{Option, none, some}
 use mathlib.Core.List.{List, [], _∷_, _++_, append-nil}
 use lib.ListN.{length, getD, set, take, drop, length-take, length-drop, drop-of-length-le}
 use lib.Seq.{sets, sets-eq, length-sets, length-take-le, take-at, take-take, take-suc, getD-drop, getD-set-other}
@@ -24,14 +23,11 @@ use mir.ValLaws.{toZ-ofZ}
 use borrow.Rule.Slice.PartAt.{part-to-end}
 use Rattle.octets.specs.Saturated.{saturated}
 use Rattle.octets.proofs.Integers.{sets-append}
-use Rattle.capture.specs.declared.Flaw.{Flaw}
-use Rattle.capture.specs.declared.Flaw.the-variants.{Nothing, Start, Long, Digit, Odd}
-use Rattle.capture.specs.Lines.{SentPiece, lineOf}
+use Rattle.capture.specs.Lines.{lineOf}
 use Rattle.capture.specs.Flaws.{flawOf, isFlaw}
-use Rattle.capture.proofs.LineLaws.{offersNothing, flawed}
 use Rattle.transcript.specs.declared.Lined.{Lined}
 use Rattle.transcript.specs.declared.NextLine.the-variants.{LineEnd, Wait}
-use Rattle.transcript.specs.Input.{Progress, stepOf, nextOf, LineReports, start as started}
+use Rattle.transcript.specs.Input.{stepOf, nextOf, LineReports, start as started}
 use Rattle.transcript.proofs.Parts.{prints-short, next-within, wait-few}
 use Rattle.report.specs.declared.State.{State}
 use Rattle.report.specs.Program.{Fits, progress, begun, movedOf, failedOf, lineStep, Writes, Prints, Memory, memory, beginning, Steps, Turns, begin, turn}
@@ -151,21 +147,6 @@ line-within l start n k last e = omega (arith, next-within (take n (drop start l
 pub wait-within : (l : List ℕ) (start n : ℕ) (last : Bool) → start + n ≤ length l → nextOf (take n (drop start l)) last ≡ Wait → n ≤ 4113
 wait-within l start n last h e = omega (arith, wait-few (take n (drop start l)) last e, length-take-le n (drop start l) (omega (arith, length-drop start l)))
 
--- the flaw of a line that is bad, and none of one that is not
-flaw-found : (p : Progress) (line : List ℕ) (bad : Bool) → bad ≡ stepOf p (lineOf line) .bad → cond bad (flawOf line) Nothing ≡ flawOf line
-flaw-found p line bad e = go (lineOf line) (flawOf line) (flawed line) e
-  where
-    go : (o : Option SentPiece) (f : Flaw) → isFlaw f ≡ offersNothing o → bad ≡ stepOf p o .bad → cond bad f Nothing ≡ f
-    go none f t e = rw e
-    go (some o) f t e = rw e (sound f t)
-      where
-        sound : (f : Flaw) → isFlaw f ≡ false → Nothing ≡ f
-        sound Nothing t = refl
-        sound Start t = absurd (false≢true (sym t))
-        sound Long t = absurd (false≢true (sym t))
-        sound Digit t = absurd (false≢true (sym t))
-        sound Odd t = absurd (false≢true (sym t))
-
 left : (n : ℕ) → cond (ltb 22528 n) 0 n ≤ 22528
 left n = go (ltb 22528 n) refl
   where
@@ -174,9 +155,9 @@ left n = go (ltb 22528 n) refl
     go false e = ltb-false 22528 n e
 
 module _ (p : State) (f : Fits p) (k : ℕ) (guest host input out : List ℕ) {l : Lined} {line part part-after guest-after host-after : List ℕ} (el : line ≡ take k (drop (p .start) input))
-    (q : LineReports (stepOf (progress p guest host) (lineOf line)) part l guest-after host-after part-after)
+    (q : LineReports (stepOf (progress p guest host) (lineOf line)) (flawOf line) part l guest-after host-after part-after)
   where
-    same : LineReports (lineStep p k guest host input) part l guest-after host-after part-after
+    same : LineReports (lineStep p k guest host input) (flawOf (take k (drop (p .start) input))) part l guest-after host-after part-after
     same = rw el at q
 
     -- what a line prints fits behind what is not written yet
@@ -187,11 +168,11 @@ module _ (p : State) (f : Fits p) (k : ℕ) (guest host input out : List ℕ) {l
     line-room = omega (arith, line-size, f .room, prints-short (progress p guest host) (take k (drop (p .start) input)))
 
     -- what is stored into the part behind `size` is stored there in the output (`sets-part`); the rest is what was told, and `Writes`
-    pub line-printed : {m n : ℕ} {fl : Flaw} {r : State} → length out ≡ 262144 → p .start + k ≤ p .end → part ≡ take (length out - p .size) (drop (p .size) out)
-        → m ≡ min (p .start + k + 1) (p .end) → n ≡ saturated (p .lines) 1 → fl ≡ cond (l .bad) (flawOf line) Nothing
-        → Writes (record { session = l .reported .session; totals = l .reported .totals; start = m; end = p .end; last = p .last; size = p .size + l .reported .size; over = l .bad; lines = n; flaw = fl; cut = p .cut; lost = p .lost }) r
+    pub line-printed : {m n : ℕ} {b : Bool} {r : State} → length out ≡ 262144 → p .start + k ≤ p .end → part ≡ take (length out - p .size) (drop (p .size) out)
+        → m ≡ min (p .start + k + 1) (p .end) → n ≡ saturated (p .lines) 1 → b ≡ isFlaw (l .flaw)
+        → Writes (record { session = l .reported .session; totals = l .reported .totals; start = m; end = p .end; last = p .last; size = p .size + l .reported .size; over = b; lines = n; flaw = l .flaw; cut = p .cut; lost = p .lost }) r
         → Prints p k guest host input out r guest-after host-after (putMid (p .size) (length out - p .size) out part-after)
-    line-printed {m} {r} lo lk ep em en ef w =
+    line-printed {m} {b} {r} lo lk ep em en eb w =
         let s = same in
         let prints = lineStep p k guest host input .prints in
         let start : r .start ≡ min (p .start + k + 1) (p .end) = ap (λ (x : State). x .start) (w .state) ∙ em in
@@ -206,12 +187,11 @@ module _ (p : State) (f : Fits p) (k : ℕ) (guest host input out : List ℕ) {l
           end = end;
           last = ap (λ (x : State). x .last) (w .state);
           lines = ap (λ (x : State). x .lines) (w .state) ∙ en;
-          flaw = ap (λ (x : State). x .flaw) (w .state) ∙ ef ∙ ap (λ (x : List ℕ). cond (l .bad) (flawOf x) Nothing) el
-              ∙ flaw-found (progress p guest host) (take k (drop (p .start) input)) (l .bad) (s .bad);
+          flaw = ap (λ (x : State). x .flaw) (w .state) ∙ s .why;
           cut = ap (λ (x : State). x .cut) (w .state);
           failed = w .failed;
           lost = w .lost ∙ rw line-size;
-          over = w .over ∙ rw (s .bad, line-size);
+          over = w .over ∙ rw (eb, s .bad, line-size);
         }
 
 -- ---- a run

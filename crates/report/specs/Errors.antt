@@ -15,10 +15,10 @@ use borrow.Author.Tests.{ltb-true, ltb-false, lt-ltb}
 use Rattle.octets.specs.Saturated.{saturated}
 use Rattle.header.specs.declared.Side.the-variants.{Guest, Host}
 use Rattle.capture.specs.declared.Flaw.{Flaw}
-use Rattle.capture.specs.declared.Flaw.the-variants.{Nothing, Start, Long, Digit, Odd}
+use Rattle.capture.specs.declared.Flaw.the-variants.{Nothing, Start, Long}
 use Rattle.capture.specs.Lines.{SentPiece, startOf, startsWith, lineOf}
 use Rattle.capture.specs.Flaws.{flawOf, isFlaw, errorLines}
-use Rattle.capture.proofs.LineLaws.{offersNothing, flawed}
+use Rattle.capture.proofs.LineLaws.{offersNothing, flawed, no-flaw}
 use Rattle.transcript.specs.declared.NextLine.the-variants.{LineEnd, Wait}
 use Rattle.transcript.specs.Input.{Progress, stepOf, linesOf, lineEnd, nextOf}
 use Rattle.transcript.proofs.Parts.{next-is, next-within, wait-none, newline-there, newline-missing, last-line, long-bad}
@@ -126,13 +126,6 @@ bad-flaw p line = go (lineOf line) ∙ sym (flawed line)
     go : (o : Option SentPiece) → stepOf p o .bad ≡ offersNothing o
     go none = refl
     go (some o) = refl
-
-no-flaw : (f : Flaw) → isFlaw f ≡ false → f ≡ Nothing
-no-flaw Nothing t = refl
-no-flaw Start t = absurd (false≢true (sym t))
-no-flaw Long t = absurd (false≢true (sym t))
-no-flaw Digit t = absurd (false≢true (sym t))
-no-flaw Odd t = absurd (false≢true (sym t))
 
 module _ {m n : Memory} where
   step-finds : (s : Steps m n) (more : List ℕ) → (n .state .last ≡ true → more ≡ [])

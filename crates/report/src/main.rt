@@ -2,18 +2,17 @@
 // the totals. It holds a part of the input and a part of the output, in buffers that do not grow. Standard error gets what went wrong.
 ghost use Prim.Native.Nat.{_+_, _≤_};
 ghost use mathlib.Core.Path.{_≡_};
-ghost use mathlib.Core.Bool.{true, cond};
+ghost use mathlib.Core.Bool.{true};
 ghost use lib.ListN.{length, take, drop};
 ghost use lib.Seq.{sets};
-ghost use Rattle.capture.specs.declared.Flaw.the-variants.{Nothing};
 ghost use Rattle.capture.specs.Lines.{totalsLine};
-ghost use Rattle.capture.specs.Flaws.{flawOf, errorLines};
+ghost use Rattle.capture.specs.Flaws.{errorLines};
 ghost use Rattle.transcript.specs.Input.{start as started};
 ghost use Rattle.report.specs.Program.{Fits, begun, movedOf, failedOf, Prints, Writes, ReadsMore, memory, beginning, Steps, Runs, Reports};
 use capture::Flaw;
-use capture::flaw_of;
 use capture::form_errors;
 use capture::form_totals;
+use capture::is_flaw;
 use header::HOLD_SIZE;
 use libc::STDERR_FILENO;
 use libc::STDIN_FILENO;
@@ -146,16 +145,6 @@ fn write_much(p: State, out: &[u8]) -> State
     next
 }
 
-// The flaw of a line. It is looked for only where the line is bad.
-fn flaw_where(bad: bool, line: &[u8]) -> Flaw
-    ensures { λ r. ⌜ r ≡ cond bad (flawOf (now (line .entry))) Nothing ⌝ }
-{
-    if bad {
-        return flaw_of(line);
-    }
-    Flaw::Nothing
-}
-
 // Reports the line of k bytes with which the unread bytes begin.
 fn print_line(
     p: State,
@@ -184,7 +173,7 @@ fn print_line(
     let r = l.reported;
     let session = r.session;
     let totals = r.totals;
-    let flaw = flaw_where(l.bad, &input[start..end]);
+    let flaw = l.flaw;
     let next = State {
         session,
         totals,
@@ -192,7 +181,7 @@ fn print_line(
         end: p.end,
         last: p.last,
         size: size + r.size,
-        over: l.bad,
+        over: is_flaw(flaw),
         lines: saturating_add(p.lines, 1),
         flaw,
         cut: p.cut,

@@ -13,7 +13,9 @@ use Rattle.header.specs.declared.Side.{Side}
 use Rattle.header.specs.declared.Side.the-variants.{Guest, Host}
 use Rattle.session.specs.declared.Session.{Session}
 use Rattle.session.specs.Session.{freshSession}
+use Rattle.capture.specs.declared.Flaw.{Flaw}
 use Rattle.capture.specs.Lines.{SentPiece, lineOf, totalsLine, badLine}
+use Rattle.capture.specs.Flaws.{isFlaw}
 use Rattle.transcript.specs.declared.Totals.{Totals}
 use Rattle.transcript.specs.declared.Reported.{Reported}
 use Rattle.transcript.specs.declared.Lined.{Lined}
@@ -106,9 +108,11 @@ pub record PieceReports (from : Side) (p : Progress) (piece out : List ℕ) (r :
   pub size : r .size ≡ min (length (pieceReport p (record { from = from; bytes = piece }) .lines)) largest
   pub output : out-after ≡ sets out 0 (pieceReport p (record { from = from; bytes = piece }) .lines)
 
--- what is printed stands at the front of the output, as far as it goes; told is how many bytes it has, or the largest number
-pub record LineReports (g : LineStep) (out : List ℕ) (r : Lined) (guest-after host-after out-after : List ℕ) : Type 0 where
+-- what is printed stands at the front of the output, as far as it goes; told is how many bytes it has, or the largest number, and the
+-- line's flaw
+pub record LineReports (g : LineStep) (flaw : Flaw) (out : List ℕ) (r : Lined) (guest-after host-after out-after : List ℕ) : Type 0 where
   pub next : record { session = r .reported .session; totals = r .reported .totals; guest = guest-after; host = host-after } ≡ g .next
   pub size : r .reported .size ≡ min (length (g .prints)) largest
-  pub bad : r .bad ≡ g .bad
+  pub why : r .flaw ≡ flaw
+  pub bad : isFlaw (r .flaw) ≡ g .bad
   pub output : out-after ≡ sets out 0 (g .prints)

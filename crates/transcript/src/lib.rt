@@ -3,8 +3,10 @@
 ghost use mathlib.Core.Path.{_≡_};
 ghost use Rattle.gate.specs.Offer.{offerOf};
 ghost use Rattle.capture.specs.Lines.{lineOf};
+ghost use Rattle.capture.specs.Flaws.{flawOf};
 ghost use Rattle.transcript.specs.Piece.{givesLine, counted, reportOf, LaysReport, CallReports};
 ghost use Rattle.transcript.specs.Input.{stepOf, lineEnd, nextOf, PieceReports, LineReports};
+use capture::Flaw;
 use capture::Line;
 use capture::decode_line;
 use capture::form_answer;
@@ -37,10 +39,10 @@ struct CallReported {
     used: usize,
 }
 
-// The same after an input line, and whether it is bad.
+// The same after an input line, and its flaw.
 pub struct Lined {
     pub reported: Reported,
-    pub bad: bool,
+    pub flaw: Flaw,
 }
 
 // What unread input begins with: a line of so many bytes, without its newline; or what comes next has to decide.
@@ -163,27 +165,24 @@ pub fn report_line(
     line: &[u8],
     out: &mut [u8],
 ) -> Lined
-    ensures { λ r. ⌜ LineReports (stepOf (record { session = s; totals = t; guest = now (guest .entry); host = now (host .entry) }) (lineOf (now (line .entry)))) (now (out .entry)) r (now (guest .exit)) (now (host .exit)) (now (out .exit)) ⌝ }
+    ensures { λ r. ⌜ LineReports (stepOf (record { session = s; totals = t; guest = now (guest .entry); host = now (host .entry) }) (lineOf (now (line .entry)))) (flawOf (now (line .entry))) (now (out .entry)) r (now (guest .exit)) (now (host .exit)) (now (out .exit)) ⌝ }
 {
     let mut bytes = [0u8; 2048];
     let l = decode_line(line, &mut bytes);
     match l {
-        Line::Bad => {
+        Line::Bad(flaw) => {
             let reported = Reported {
                 session: s,
                 totals: t,
                 size: form_bad(out, 0),
             };
-            Lined {
-                reported,
-                bad: true,
-            }
+            Lined { reported, flaw }
         }
         Line::Piece(from, n) => {
             let reported = report_from(s, t, from, guest, host, part(&bytes, 0, n), out);
             Lined {
                 reported,
-                bad: false,
+                flaw: Flaw::Nothing,
             }
         }
     }

@@ -1,4 +1,4 @@
--- `capture::decode_piece` meets its contract: by whether all are digits, even in count, and at most 4,096.
+-- `capture::decode_piece` meets its contract: by whether the digits have a flaw.
 -- Assumes nothing.
 use mathlib.Core.Path.{sym, _∙_}
 use borrow.Author.Needs.{needs}
@@ -6,8 +6,17 @@ use Rattle.capture.proofs.Spelling.{decodes-piece, decodes-nothing}
 use Rattle.capture.proofs.decode_piece.Statement.{statement}
 use Rattle.capture.proofs.decode_piece.Tie as tie
 
-is-spelling-requires : tie.Need-is-spelling-requires
-is-spelling-requires c κs = search needs
+digits-flaw-requires : tie.Need-digits-flaw-requires
+digits-flaw-requires c κs = search needs
+
+is-flaw-requires : tie.Need-is-flaw-requires
+is-flaw-requires c κs = search needs
+
+returns : tie.Need-returns
+returns c =
+    let d = c .before .before in
+    let a = d .before .before .before .args in
+    decodes-nothing (a .from) (a .s .now) (d .digits-flaw .ensures) (sym (c .before .is-flaw .ensures) ∙ c .if1 .taken)
 
 lay-spelt-requires : tie.Need-lay-spelt-requires
 lay-spelt-requires c κs = search needs
@@ -15,16 +24,20 @@ lay-spelt-requires c κs = search needs
 same-length : tie.Need-same-length
 same-length c = search needs
 
-returns : tie.Need-returns
-returns c =
-    let t = c .before .before .before .before in
-    let a = t .before .before .before .before .args in
-    decodes-piece (a .from) (a .s .now) (sym (t .before .is-spelling .ensures) ∙ t .if1 .taken) (c .before .before .lay-spelt .ensures)
-
 returns-2 : tie.Need-returns-2
 returns-2 c =
-    decodes-nothing (c .before .before .before .before .args .from) (c .before .before .before .before .args .s .now) (sym (c .before .is-spelling .ensures) ∙ c .if1 .left)
+    let i = c .before .before .before .before in
+    let d = i .before .before in
+    let a = d .before .before .before .args in
+    decodes-piece (a .from) (a .s .now) (d .digits-flaw .ensures) (sym (i .before .is-flaw .ensures) ∙ i .if1 .left) (c .before .before .lay-spelt .ensures)
 
 pub decode-piece-spec : {M : Type 1} → statement M
 decode-piece-spec =
-    tie.close (tie.spec is-spelling-requires lay-spelt-requires same-length returns returns-2)
+    tie.close
+    (tie.spec
+    digits-flaw-requires
+    is-flaw-requires
+    returns
+    lay-spelt-requires
+    same-length
+    returns-2)

@@ -32,22 +32,8 @@ part-report-line-end-2 c = search needs
 report-line-requires : tie.Need-report-line-requires
 report-line-requires c κs = search needs
 
-sub-flaw-where : tie.Need-sub-flaw-where
-sub-flaw-where c = search needs
-
-part-flaw-where-start : tie.Need-part-flaw-where-start
-part-flaw-where-start c = search needs
-
-part-flaw-where-end : tie.Need-part-flaw-where-end
-part-flaw-where-end c = search needs
-
-flaw-where-requires : tie.Need-flaw-where-requires
-flaw-where-requires c κs = search needs
-
 add-minimum : tie.Need-add-minimum
-add-minimum c =
-    let s = c .before .before .before .before .before .before .before .before .before .before .before .before .before .before .before .before .before .before .before .before .before .before in
-    omega (arith, s .pre .3, s .pre .0 .within)
+add-minimum c = search needs
 
 minimum-requires : tie.Need-minimum-requires
 minimum-requires c κs = search needs
@@ -58,30 +44,33 @@ room c =
     let a = s .args in
     line-room (a .p) (s .pre .0) (a .k) (a .guest .now) (a .host .now) (a .input .now) (a .out .now) (line-is (a .input .now) (a .p .start) (a .k)) (c .report-line .ensures)
 
-add-t33 : tie.Need-add-t33
-add-t33 c = omega (arith, room (c .before .before .before .before .before .before .before .before .before .before .before .before .before))
+add-t30 : tie.Need-add-t30
+add-t30 c = omega (arith, room (c .before .before .before .before .before .before .before .before .before .before .before))
+
+is-flaw-requires : tie.Need-is-flaw-requires
+is-flaw-requires c κs = search needs
 
 saturating-add-requires : tie.Need-saturating-add-requires
 saturating-add-requires c κs = search needs
 
 write-much-requires : tie.Need-write-much-requires
-write-much-requires c κs = omega (arith, room (c .before .before .before .before .before .before .before .before .before .before .before .before .before .before .before), c .before .before .before .before .before .before .before .before .before .before .out .given .1, c .before .before .before .before .before .before .before .before .before .before .before .before .before .before .before .before .before .before .before .before .before .before .before .before .before .before .pre .2)
+write-much-requires c κs = omega (arith, room (c .before .before .before .before .before .before .before .before .before .before .before .before .before .before), c .before .before .before .before .before .before .before .before .before .out .given .1, c .before .before .before .before .before .before .before .before .before .before .before .before .before .before .before .before .before .before .before .before .before .before .before .before .before .pre .2)
 
 same-length : tie.Need-same-length
-same-length c = c .before .before .before .before .before .before .before .before .before .before .before .before .before .before .before .before .report-line .kept .1 .1 .0
+same-length c = c .before .before .before .before .before .before .before .before .before .before .before .before .before .before .before .report-line .kept .1 .1 .0
 
 same-length-2 : tie.Need-same-length-2
-same-length-2 c = c .before .before .before .before .before .before .before .before .before .before .before .before .before .before .before .before .report-line .kept .1 .1 .1 .0
+same-length-2 c = c .before .before .before .before .before .before .before .before .before .before .before .before .before .before .before .report-line .kept .1 .1 .1 .0
 
 same-length-3 : tie.Need-same-length-3
-same-length-3 c = c .before .before .before .before .before .before .before .before .before .before .before .out .given .1
+same-length-3 c = search needs
 
 returns : tie.Need-returns
 returns c =
-    let d = c .before .before .before .before .before .before .before .before .before .before .before .before .before .before .before .before in
+    let d = c .before .before .before .before .before .before .before .before .before .before .before .before .before .before .before in
     let s = d .before .before .before .before .before .before .before .before .before .before .before in
     let a = s .args in
-    line-printed (a .p) (s .pre .0) (a .k) (a .guest .now) (a .host .now) (a .input .now) (a .out .now) (line-is (a .input .now) (a .p .start) (a .k)) (d .report-line .ensures) (s .pre .2) (s .pre .3) refl (c .before .before .before .before .minimum .ensures) (c .before .before .saturating-add .ensures) (c .before .before .before .before .before .flaw-where .ensures) (c .write-much .ensures)
+    line-printed (a .p) (s .pre .0) (a .k) (a .guest .now) (a .host .now) (a .input .now) (a .out .now) (line-is (a .input .now) (a .p .start) (a .k)) (d .report-line .ensures) (s .pre .2) (s .pre .3) refl (c .before .before .before .before .before .minimum .ensures) (c .before .before .saturating-add .ensures) (c .before .before .before .is-flaw .ensures) (c .write-much .ensures)
 
 pub print-line-spec : {M : Type 1} → statement M
 print-line-spec =
@@ -95,13 +84,10 @@ print-line-spec =
     part-report-line-start-2
     part-report-line-end-2
     report-line-requires
-    sub-flaw-where
-    part-flaw-where-start
-    part-flaw-where-end
-    flaw-where-requires
     add-minimum
     minimum-requires
-    add-t33
+    add-t30
+    is-flaw-requires
     saturating-add-requires
     write-much-requires
     same-length

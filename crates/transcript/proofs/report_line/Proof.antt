@@ -12,14 +12,14 @@ slice-aggregate-decode-line c = search needs
 decode-line-requires : tie.Need-decode-line-requires
 decode-line-requires c κs = search needs
 
-enum-told : tie.Need-enum-told
-enum-told c = search needs
+enum-known-l : tie.Need-enum-known-l
+enum-known-l c = search needs
 
 form-bad-requires : tie.Need-form-bad-requires
 form-bad-requires c κs = search needs
 
-enum-known-l : tie.Need-enum-known-l
-enum-known-l c = search needs
+enum-known-l-2 : tie.Need-enum-known-l-2
+enum-known-l-2 c = search needs
 
 slice-aggregate-part : tie.Need-slice-aggregate-part
 slice-aggregate-part c = search needs
@@ -36,10 +36,10 @@ same-length c = search needs
 returns : tie.Need-returns
 returns c =
     let f = c .before .before in
-    let m = f .before .before in
+    let m = f .before .before .before in
     let d = m .before .before .before in
     let a = d .before .before .before .before .before .before .args in
-    line-bad (record { session = a .s; totals = a .t; guest = a .guest .now; host = a .host .now }) (a .line .now) (a .out .now) (d .decode-line .ensures) (m .enum-told .given .1) (f .form-bad .ensures)
+    line-bad (record { session = a .s; totals = a .t; guest = a .guest .now; host = a .host .now }) (a .line .now) (a .out .now) (d .decode-line .ensures) (m .l .given .1) (f .form-bad .ensures)
 
 same-length-2 : tie.Need-same-length-2
 same-length-2 c = search needs
@@ -57,7 +57,7 @@ returns-2 c =
     let m = q .before .before .before .before .before in
     let d = m .before .before .before in
     let a = d .before .before .before .before .before .before .args in
-    line-good (record { session = a .s; totals = a .t; guest = a .guest .now; host = a .host .now }) (a .line .now) (a .out .now) (d .decode-line .ensures) (omega arith) (m .l .given .1) (q .part .ensures) (f .report-from .ensures)
+    line-good (record { session = a .s; totals = a .t; guest = a .guest .now; host = a .host .now }) (a .line .now) (a .out .now) (d .decode-line .ensures) (omega arith) (m .l2 .given .1) (q .part .ensures) (f .report-from .ensures)
 
 pub report-line-spec : {M : Type 1} → statement M
 report-line-spec =
@@ -65,9 +65,9 @@ report-line-spec =
     (tie.spec
     slice-aggregate-decode-line
     decode-line-requires
-    enum-told
-    form-bad-requires
     enum-known-l
+    form-bad-requires
+    enum-known-l-2
     slice-aggregate-part
     part-requires
     report-from-requires
