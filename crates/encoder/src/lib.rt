@@ -93,6 +93,7 @@ pub fn write(l: Link, id: u64, p: Packet, body: &[u8], out: &mut [u8]) -> Writte
     let tail = f.rest;
     let rest = part_of(body, tail);
     let kind = kind_of(slot);
+    // a rest that is too long counts as 65,536 bytes, which is too long as well, so that the sum has no overflow
     let length = fields_size(slot, caps) + minimum(rest.len(), 65536);
     let first = header_number(l, kind, length);
     if first != 0 {

@@ -8,9 +8,9 @@ use mathlib.Core.Path.{_≡_, refl, sym, ap, _∙_}
 use mathlib.Core.Bool.{Bool, true, false, cond, _&&_, _||_, false≢true}
 use mathlib.Core.List.{List, [], _∷_, _++_, append-assoc, append-nil}
 use mathlib.Core.Option.{Option, none, some}
-use lib.ListN.{length, take, drop, length-append, length-drop, length-take, drop-of-length-le, take-append-drop}
-use lib.Seq.{sets, take-all, take-take}
-use lib.Dec.{eqb, ltb}
+use lib.ListN.{length, take, drop, length-append, length-drop, drop-of-length-le}
+use lib.Seq.{sets, take-all}
+use lib.Dec.{ltb}
 use borrow.Author.Tests.{ltb-true, ltb-false, lt-ltb}
 use Rattle.octets.specs.Saturated.{saturated}
 use Rattle.header.specs.declared.Side.the-variants.{Guest, Host}
@@ -19,12 +19,12 @@ use Rattle.capture.specs.declared.Flaw.the-variants.{Nothing, Start, Long}
 use Rattle.capture.specs.Lines.{SentPiece, startOf, startsWith, lineOf}
 use Rattle.capture.specs.Flaws.{flawOf, isFlaw, errorLines}
 use Rattle.capture.proofs.LineLaws.{offersNothing, flawed, no-flaw}
-use Rattle.transcript.specs.declared.NextLine.the-variants.{LineEnd, Wait}
+use Rattle.transcript.specs.declared.NextLine.the-variants.{LineEnd}
 use Rattle.transcript.specs.Input.{Progress, stepOf, linesOf, lineEnd, nextOf}
-use Rattle.transcript.proofs.Parts.{next-is, next-within, wait-none, newline-there, newline-missing, last-line, long-bad}
+use Rattle.transcript.proofs.Parts.{next-is, wait-none, newline-there, newline-missing, last-line, long-bad}
 use Rattle.report.specs.declared.State.{State}
-use Rattle.report.specs.Program.{unread, lineStep, sizeWith, Prints, Memory, Steps, step-line, step-end, step-read, Turns, begin, turn, Reports}
-use Rattle.report.specs.Output.{readIn, failedIn, badIn, read-none, bad-over, behind-line, readBy, failedBy, badBy, not-bad, first-true}
+use Rattle.report.specs.Program.{unread, lineStep, sizeWith, Memory, Steps, step-line, step-end, step-read, Turns, begin, turn, Reports}
+use Rattle.report.specs.Output.{readIn, failedIn, badIn, read-none, readBy, failedBy, badBy, not-bad, first-true, read-on, line-first}
 
 -- ---- what the lines of an input show: how many there are up to a bad one, and its flaw; all of them, and no flaw, where none is bad
 
@@ -133,21 +133,13 @@ module _ {m n : Memory} where
   step-finds (step-line {k} e q i) more none-behind =
       let p = m .state in
       let b = unread p (m .input) in
-      let hk : k ≤ p .end - p .start = omega (arith, next-within b (p .last) e, length-take (p .end - p .start) (drop (p .start) (m .input))) in
-      let line : take k b ≡ take k (drop (p .start) (m .input)) = take-take k (p .end - p .start) (drop (p .start) (m .input)) hk in
-      let rest : drop (suc k) b ≡ unread (n .state) (n .input) = behind-line (m .input) (p .start) (p .end) k ∙ rw (q .start, q .end, i) in
+      let (line, rest) = line-first m n e q i in
       let bad = bad-flaw (record { session = p .session; totals = p .totals; guest = m .guest; host = m .host }) (take k (drop (p .start) (m .input))) in
       first-found (p .lines) more b (p .last) e (λ t. none-behind (q .last ∙ t)) ∙ rw (line, rest, bad, q .lines, q .flaw)
   step-finds (step-end e l s g h i o) more none-behind = rw (s, i)
   step-finds (step-read e l q g h o) more none-behind =
-      let w = m .state .end - m .state .start in
-      let un = unread (n .state) (n .input) in
-      let front : unread (m .state) (m .input) ++ (drop w un ++ more) ≡ un ++ more
-      = sym (append-assoc (unread (m .state) (m .input)) (drop w un) more)
-      ∙ ap (λ (x : List ℕ). (x ++ drop w un) ++ more) (sym (q .kept))
-      ∙ ap (λ (x : List ℕ). x ++ more) (take-append-drop w un) in
       let lines : n .state .lines ≡ m .state .lines = ap (λ (p : State). p .lines) (q .state) in
-      rw (front, lines)
+      rw (read-on m n q more, lines)
 
   -- a turn whose line is not bad leaves no flaw
   step-sound : (s : Steps m n) → m .state .flaw ≡ Nothing → badIn s ≡ false → n .state .flaw ≡ Nothing

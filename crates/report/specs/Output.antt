@@ -19,7 +19,7 @@ use Rattle.transcript.specs.declared.NextLine.the-variants.{LineEnd}
 use Rattle.transcript.specs.Input.{Progress, linesOf, totalsOf, outputFrom, outputOf, nextOf, start as started}
 use Rattle.transcript.proofs.Parts.{prints-short, next-within, first-line, last-wait}
 use Rattle.report.specs.declared.State.{State}
-use Rattle.report.specs.Program.{Fits, unread, progress, lineStep, sizeWith, Prints, Memory, Steps, step-line, step-end, step-read, Turns, begin, turn, Reports}
+use Rattle.report.specs.Program.{Fits, ReadsMore, unread, progress, lineStep, sizeWith, Prints, Memory, Steps, step-line, step-end, step-read, Turns, begin, turn, Reports}
 
 -- ---- what a turn does
 
@@ -102,6 +102,25 @@ toCome bad m more = cond bad (totalsOf (progressOf m)) (outputFrom (progressOf m
 abbrev pub pending : Memory → List ℕ
 pending m = take (m .state .size) (m .out)
 
+-- bytes that are read stand behind the unread ones
+pub read-on : (m n : Memory) → ReadsMore (m .state) (m .input) (n .state) (n .input) → (more : List ℕ)
+    → unread (m .state) (m .input) ++ (drop (m .state .end - m .state .start) (unread (n .state) (n .input)) ++ more) ≡ unread (n .state) (n .input) ++ more
+read-on m n q more =
+    let w = m .state .end - m .state .start in
+    let un = unread (n .state) (n .input) in
+    sym (append-assoc (unread (m .state) (m .input)) (drop w un) more)
+    ∙ ap (λ (x : List ℕ). (x ++ drop w un) ++ more) (sym (q .kept))
+    ∙ ap (λ (x : List ℕ). x ++ more) (take-append-drop w un)
+
+-- a line is where the unread bytes start, and behind it are those that are unread then
+pub line-first : (m n : Memory) {k : ℕ} → nextOf (unread (m .state) (m .input)) (m .state .last) ≡ LineEnd k
+    → Prints (m .state) k (m .guest) (m .host) (m .input) (m .out) (n .state) (n .guest) (n .host) (n .out) → n .input ≡ m .input
+    → (take k (unread (m .state) (m .input)) ≡ take k (drop (m .state .start) (m .input))) × (drop (suc k) (unread (m .state) (m .input)) ≡ unread (n .state) (n .input))
+line-first m n {k} e q i =
+    let p = m .state in
+    let hk : k ≤ p .end - p .start = omega (arith, next-within (unread p (m .input)) (p .last) e, length-take (p .end - p .start) (drop (p .start) (m .input))) in
+    (take-take k (p .end - p .start) (drop (p .start) (m .input)) hk, behind-line (m .input) (p .start) (p .end) k ∙ rw (q .start, q .end, i))
+
 module _ {m n : Memory} (f : Fits (m .state)) (lo : length (m .out) ≡ 262144) (more : List ℕ) (none-behind : n .state .last ≡ true → more ≡ []) where
   -- a line: what it prints is the first of what is still to come, and stands behind the output that was not written yet
   line-keeps : {k : ℕ} → nextOf (unread (m .state) (m .input)) (m .state .last) ≡ LineEnd k
@@ -112,9 +131,7 @@ module _ {m n : Memory} (f : Fits (m .state)) (lo : length (m .out) ≡ 262144) 
       let p = m .state in
       let b = unread p (m .input) in
       let g = lineStep p k (m .guest) (m .host) (m .input) in
-      let hk : k ≤ p .end - p .start = omega (arith, next-within b (p .last) e, length-take (p .end - p .start) (drop (p .start) (m .input))) in
-      let line : take k b ≡ take k (drop (p .start) (m .input)) = take-take k (p .end - p .start) (drop (p .start) (m .input)) hk in
-      let rest : drop (suc k) b ≡ unread (n .state) (n .input) = behind-line (m .input) (p .start) (p .end) k ∙ rw (q .start, q .end, i) in
+      let (line, rest) = line-first m n e q i in
       let first : outputFrom (progressOf m) (linesOf (b ++ more)) ≡ g .prints ++ toCome (g .bad) n more
       = first-line (progressOf m) more b (p .last) e (λ t. none-behind (q .last ∙ t)) ∙ rw (line, rest, q .next) in
       let laid : take (sizeWith p k (m .guest) (m .host) (m .input)) (n .out) ≡ pending m ++ g .prints
@@ -137,15 +154,9 @@ module _ {m n : Memory} (f : Fits (m .state)) (lo : length (m .out) ≡ 262144) 
       go false e = rw e
   step-keeps (step-end e l s g h i o) = rw (s, g, h, i, o)
   step-keeps (step-read e l q g h o) =
-      let w = m .state .end - m .state .start in
-      let un = unread (n .state) (n .input) in
-      let front : unread (m .state) (m .input) ++ (drop w un ++ more) ≡ un ++ more
-      = sym (append-assoc (unread (m .state) (m .input)) (drop w un) more)
-      ∙ ap (λ (x : List ℕ). (x ++ drop w un) ++ more) (sym (q .kept))
-      ∙ ap (λ (x : List ℕ). x ++ more) (take-append-drop w un) in
       let same : progressOf n ≡ progressOf m = ap (λ (p : State). progress p (n .guest) (n .host)) (q .state) ∙ rw (g, h) in
       let size : n .state .size ≡ m .state .size = ap (λ (p : State). p .size) (q .state) in
-      rw (front, same, size, o)
+      rw (read-on m n q more, same, size, o)
 
 -- ---- a run
 

@@ -1,6 +1,5 @@
 -- `capture::digits_flaw` meets its contract: by the tests, in their order.
 -- Assumes nothing.
-use mathlib.Core.Path.{sym, _∙_}
 use Rattle.capture.proofs.Spelling.{flaw-long, flaw-digit, flaw-none, flaw-odd}
 use borrow.Author.Needs.{needs}
 use Rattle.capture.proofs.digits_flaw.Statement.{statement}
