@@ -24,26 +24,28 @@ use Rattle.requests.specs.Requests.{places, isSome, requestAt, Free, Id, Settli
 use Rattle.requests.proofs.Places.{place-live, lowest-found, answered-by-id, answeredBy}
 use Rattle.events.specs.declared.Typed.{Typed}
 use Rattle.events.specs.declared.Typed.the-variants.{OfEndpoint}
-use Rattle.events.specs.Meaning.{Class, Hello, Connect, Interfaces, Endpoints, Disconnect, Reset, Ack, Cancel, Filter, StartRequest, PlainRequest, StreamStatus, PlainReply, StreamData}
+use Rattle.events.specs.Meaning.{Class, Hello, Connect, Interfaces, Endpoints, Disconnect, Reset, Ack, Cancel, Filter, StartRequest, PlainRequest, StreamStatus, PlainReply, StreamOut, StreamIn}
 use Rattle.events.specs.Event.{Event, isTransfer, caseOf, replyOf}
+use Rattle.events.specs.Proper.{isStream}
 use Rattle.checks.specs.declared.Change.{Change}
 use Rattle.checks.specs.declared.Change.the-variants as changes
+use Rattle.checks.specs.declared.StreamMove.the-variants.{Stalls}
 use Rattle.checks.specs.declared.Ruling.{Ruling}
 use Rattle.checks.specs.declared.Ruling.the-variants.{Denied, Granted}
 use Rattle.checks.specs.Checks.{Match, Unmatched, Matched, matchIn, matchOf, isUnmatched, tooLong, mistypedBy, isDone, isBegun, numberFor, numberOf}
-use Rattle.checks.specs.Change.{ruledBy, rulingOf, opens, scopeOf, placeOr, placeIn}
+use Rattle.checks.specs.Change.{ruledBy, rulingOf, moveBy, moveOf, scopeOf, placeOr, placeIn}
 use Rattle.checks.specs.Ruled.{ruled, taking, repliedIn, unmatched, alone, settled, scopeTo}
 
--- what an event is that its packet's table of meanings gives: a transfer is a request or stream data, and stream data is on an endpoint
+-- what an event is that its packet's table of meanings gives: a transfer is a request or stream data of the guest, and stream data is on an endpoint
 pub record Proper (e : Event) : Type 0 where
-  pub transfer : isTransfer e ≡ true → (e .class ≡ PlainRequest) ⊎ (e .class ≡ StreamData)
-  pub streamed : e .class ≡ StreamData → (x : Endpoint) × (k : ℕ) × (e .typed ≡ OfEndpoint x k)
+  pub transfer : isTransfer e ≡ true → (e .class ≡ PlainRequest) ⊎ (e .class ≡ StreamOut)
+  pub streamed : isStream (e .class) ≡ true → (x : Endpoint) × (k : ℕ) × (e .typed ≡ OfEndpoint x k)
 
 -- an event of a class that is neither is no transfer
-no-transfer : (e : Event) → Proper e → (e .class ≡ PlainRequest → ⊥) → (e .class ≡ StreamData → ⊥) → isTransfer e ≡ false
+no-transfer : (e : Event) → Proper e → (e .class ≡ PlainRequest → ⊥) → (e .class ≡ StreamOut → ⊥) → isTransfer e ≡ false
 no-transfer e p f g = cases (isTransfer e) (λ t. absurd (either (p .transfer t))) (λ t. t)
   where
-    either : (e .class ≡ PlainRequest) ⊎ (e .class ≡ StreamData) → ⊥
+    either : (e .class ≡ PlainRequest) ⊎ (e .class ≡ StreamOut) → ⊥
     either (inl x) = f x
     either (inr x) = g x
 
@@ -62,7 +64,8 @@ tag StartRequest = 9
 tag PlainRequest = 10
 tag StreamStatus = 11
 tag PlainReply = 12
-tag StreamData = 13
+tag StreamOut = 13
+tag StreamIn = 14
 
 apart : (c d : Class) → eqb (tag c) (tag d) ≡ false → c ≡ d → ⊥
 apart c d h e = true≢false (sym (eq-eqb (tag c) (tag d) (ap tag e)) ∙ h)
@@ -115,8 +118,8 @@ matchNumber e unasked (Matched i q) = cond (ltb (q .length) (e .request .length)
 
 module _ (t : Requests) (e : Event) (unasked : Bool) where
   abbrev wanted : Match → Change
-  wanted Unmatched = changes.Release places (e .typed) false NoRow
-  wanted (Matched i q) = changes.Release i (e .typed) (opens e (Matched i q)) (scopeOf e (Matched i q))
+  wanted Unmatched = changes.Release places (e .typed) Stalls NoRow
+  wanted (Matched i q) = changes.Release i (e .typed) (moveOf e (Matched i q)) (scopeOf e (Matched i q))
 
   none-answered : unmatched (e .typed) (alone (replyOf e) unasked) ≡ ruledBy (matchNumber e unasked Unmatched) (wanted Unmatched)
   none-answered = cases (unasked && eqb (e .request .id) 0 && eqb (e .status) 4) (λ x. rw x) (λ x. rw x)
@@ -138,7 +141,7 @@ module _ (t : Requests) (e : Event) (unasked : Bool) where
   -- that request is of a kind that the reply answers, and of its endpoint or interface
   matched-is : (i : ℕ) → placeAt t i .request ≡ requestAt t i
       → cond (ltb (requestAt t i .length) (e .request .length)) (Denied 34)
-      (Granted (changes.Release i (e .typed) (eqb (e .status) 0 && eqb (requestAt t i .kind) (e .answers .first)) (scopeTo (replyOf e) (requestAt t i .kind))))
+      (Granted (changes.Release i (e .typed) (moveBy (e .status) (eqb (requestAt t i .kind) (e .answers .first))) (scopeTo (replyOf e) (requestAt t i .kind))))
       ≡ ruledBy (matchNumber e unasked (Matched i (placeAt t i .request))) (wanted (Matched i (placeAt t i .request)))
   matched-is i w = rw w (cases (ltb (requestAt t i .length) (e .request .length)) (λ y. rw y) (λ y. rw y))
 
@@ -172,9 +175,13 @@ module _ (t : Requests) (e : Event) (unasked : Bool) where
   -- and by the checks: 25, 33, 34
   reply-shape : (a : Bool) (r : Ruling) (m : Match) → settled r t ≡ ruledBy (matchNumber e unasked m) (wanted m)
       → settled (cond a r (Denied 25)) t
-      ≡ ruledBy (cond (not a) 25 (cond (isUnmatched m && not (unasked && eqb (e .request .id) 0 && eqb (e .status) 4)) 33 (cond (tooLong e m) 34 0))) (changes.Release (placeIn m) (e .typed) (opens e m) (scopeOf e m))
+      ≡ ruledBy (cond (not a) 25 (cond (isUnmatched m && not (unasked && eqb (e .request .id) 0 && eqb (e .status) 4)) 33 (cond (tooLong e m) 34 0))) (changes.Release (placeIn m) (e .typed) (moveOf e m) (scopeOf e m))
   reply-shape false r m h = refl
-  reply-shape true r Unmatched h = h ∙ cases (unasked && eqb (e .request .id) 0 && eqb (e .status) 4) (λ x. rw x) (λ x. rw x)
+  reply-shape true r Unmatched h = h ∙ cases (unasked && eqb (e .request .id) 0 && eqb (e .status) 4) (λ x. rw (x, stalled x)) (λ x. rw x)
+    where
+      -- what may come unasked is a stall
+      stalled : (unasked && eqb (e .request .id) 0 && eqb (e .status) 4) ≡ true → eqb (e .status) 4 ≡ true
+      stalled x = and-parts (unasked && eqb (e .request .id) 0) (eqb (e .status) 4) x .1
   reply-shape true r (Matched i q) h = h
 
 -- ---- every class
@@ -188,7 +195,7 @@ module _ (h : Head) (d : Rows) (t : Requests) (u : idsDiffer t ≡ true) where
     of c = record { sender = from; class = c; request = r; answers = a; typed = ty; status = st; word = w; rows = rows }
 
     calm : (c : Class) → Proper (of c) → eqb (tag c) 10 ≡ false → eqb (tag c) 13 ≡ false → isTransfer (of c) ≡ false
-    calm c p x y = no-transfer (of c) p (apart c PlainRequest x) (apart c StreamData y)
+    calm c p x y = no-transfer (of c) p (apart c PlainRequest x) (apart c StreamOut y)
 
     by-class : (c : Class) → Proper (of c) → Agrees (of c)
     unfolding ruled rulingOf numberOf numberFor matchOf
@@ -213,9 +220,12 @@ module _ (h : Head) (d : Rows) (t : Requests) (u : idsDiffer t ≡ true) where
     by-class PlainReply p =
         rw (calm PlainReply p refl refl)
         (reply-shape t (of PlainReply) false (h .present) _ (matchIn t (lowest t (Answered r a))) (reply-is t (of PlainReply) false u))
-    by-class StreamData p =
+    by-class StreamOut p =
         let x = p .streamed refl in
-        rw (x .2) (stream-shape t (h .present) (eqb (stateAt d (x .0) .ty) (x .1)) (isTransfer (of StreamData) && isSome (lowest t Settling)) (stateAt d (x .0) .streaming) changes.NoChange)
+        rw (x .2) (stream-shape t (h .present) (eqb (stateAt d (x .0) .ty) (x .1)) (isTransfer (of StreamOut) && isSome (lowest t Settling)) (stateAt d (x .0) .streaming) changes.NoChange)
+    by-class StreamIn p =
+        let x = p .streamed refl in
+        rw (x .2, calm StreamIn p refl refl) (stream-shape t (h .present) (eqb (stateAt d (x .0) .ty) (x .1)) false (stateAt d (x .0) .streaming) (changes.Seen (x .0) (r .id)))
 
   pub ruled-is : (e : Event) → Proper e → Agrees e
   ruled-is e p = by-class (e .sender) (e .request) (e .answers) (e .typed) (e .status) (e .word) (e .rows) (e .class) p

@@ -25,11 +25,14 @@ use Rattle.events.specs.declared.Typed.{Typed}
 use Rattle.events.specs.declared.Reply.{Reply}
 use Rattle.events.specs.declared.Case.{Case}
 use Rattle.events.specs.declared.Case.the-variants as cases
-use Rattle.checks.specs.declared.Change.the-variants.{NoChange, Release}
+use Rattle.checks.specs.declared.Change.{Change}
+use Rattle.checks.specs.declared.Change.the-variants.{Release}
+use Rattle.checks.specs.declared.StreamMove.{StreamMove}
 use Rattle.checks.specs.declared.Expected.{Expected}
 use Rattle.checks.specs.declared.Ruling.{Ruling}
 use Rattle.checks.specs.declared.Ruling.the-variants.{Denied, Granted, Pending}
 use Rattle.checks.specs.Checks.{mistypedBy}
+use Rattle.checks.specs.Change.{moveBy}
 use Rattle.checks.specs.Ruled.{taking, askedBy, unmatched, alone, scopeTo, expected, settledBy, repliedIn, streamedBy, ruled}
 
 -- a choice, where its test is known
@@ -72,9 +75,9 @@ module _ (d : Rows) (t : Requests) (q : Request) (typed : Typed) (starts transfe
 
 -- ---- data on a stream
 
-module _ (d : Rows) (t : Requests) (e : Endpoint) (ty : ℕ) (transfer : Bool) (k : ℕ) (isk : k ≡ stateAt d e .ty) where
+module _ (d : Rows) (t : Requests) (e : Endpoint) (ty : ℕ) (transfer : Bool) (does : Change) (k : ℕ) (isk : k ≡ stateAt d e .ty) where
   abbrev Streamed : Ruling → Type 0
-  Streamed r = r ≡ streamedBy d t e ty transfer
+  Streamed r = r ≡ streamedBy d t e ty transfer does
 
   pub streamed-mistyped : (k ≡ ty → ⊥) → Streamed (Denied 28)
   streamed-mistyped h = rw (← isk, ne-eqb k ty h)
@@ -83,7 +86,7 @@ module _ (d : Rows) (t : Requests) (e : Endpoint) (ty : ℕ) (transfer : Bool) (
     pub streamed-settling : transfer ≡ true → (s : Bool) → s ≡ isSome (lowest t Settling) → s ≡ true → Streamed (Denied 29)
     streamed-settling x s c b = rw (← isk, eq-eqb k ty h, x, ← c, b)
 
-    pub streamed-by : (transfer && isSome (lowest t Settling)) ≡ false → (b : Bool) → b ≡ stateAt d e .streaming → Streamed (cond b (Granted NoChange) (Denied 30))
+    pub streamed-by : (transfer && isSome (lowest t Settling)) ≡ false → (b : Bool) → b ≡ stateAt d e .streaming → Streamed (cond b (Granted does) (Denied 30))
     streamed-by w b c = rw (← isk, eq-eqb k ty h, w, ← c)
 
 -- ---- a reply, by its slot
@@ -94,9 +97,9 @@ other-target true true = refl
 other-target true false = refl
 other-target false b = refl
 
-module _ (i : ℕ) (x : Expected) (typed : Typed) (opens : Bool) (scope : Scope) (slot : Slot) where
+module _ (i : ℕ) (x : Expected) (typed : Typed) (stream : StreamMove) (scope : Scope) (slot : Slot) where
   abbrev Settles : Ruling → Type 0
-  Settles r = r ≡ settledBy i x typed opens scope slot
+  Settles r = r ≡ settledBy i x typed stream scope slot
 
   abbrev other : Bool
   other = x .targeted && not (eqb (slot .target) (x .target))
@@ -104,7 +107,7 @@ module _ (i : ℕ) (x : Expected) (typed : Typed) (opens : Bool) (scope : Scope)
   pub target-other : other ≡ true → Settles (unmatched typed (x .unasked))
   target-other h = rw (other-target (x .targeted) (eqb (slot .target) (x .target)), h)
 
-  pub target-same : other ≡ false → Settles (cond (ltb (slot .length) (x .length)) (Denied 34) (Granted (Release i typed opens scope)))
+  pub target-same : other ≡ false → Settles (cond (ltb (slot .length) (x .length)) (Denied 34) (Granted (Release i typed stream scope)))
   target-same h = rw (other-target (x .targeted) (eqb (slot .target) (x .target)), h)
 
 -- ---- a reply, by the place that has its id
@@ -125,9 +128,10 @@ module _ (t : Requests) (r : Reply) (typed : Typed) (unasked : Bool) (f : FoundP
     pub reply-other : (eqb k (r .answers .first) || eqb k (r .answers .second)) ≡ false → (u : Ruling) → u ≡ unmatched typed (alone r unasked) → u ≡ replied
     reply-other h u c = c ∙ rw (← isk, h) at (at-place (AtPlace i) e)
 
-    pub reply-pending : (eqb k (r .answers .first) || eqb k (r .answers .second)) ≡ true → (s : Scope) → s ≡ scopeTo r k
-        → Pending i (expected r unasked) typed (eqb (r .status) 0 && eqb k (r .answers .first)) s ≡ replied
-    reply-pending h s c = rw c (rw (← isk, h) at (at-place (AtPlace i) e))
+    pub reply-pending : (eqb k (r .answers .first) || eqb k (r .answers .second)) ≡ true
+        → (m : StreamMove) → m ≡ moveBy (r .status) (eqb k (r .answers .first)) → (s : Scope) → s ≡ scopeTo r k
+        → Pending i (expected r unasked) typed m s ≡ replied
+    reply-pending h m b s c = rw (b, c) (rw (← isk, h) at (at-place (AtPlace i) e))
 
 -- a ruling is that of the packet's case
 pub by-case : (h : Head) (d : Rows) (t : Requests) (c x : Case) (r : Ruling) → c ≡ x → r ≡ ruled h d t x → r ≡ ruled h d t c

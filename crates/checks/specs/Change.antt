@@ -1,7 +1,7 @@
 -- What a packet that passes does, as a change: by its class and, for a reply, by the request that it answers.
 -- Assumes nothing: these are definitions.
 use Prim.Native.Nat.{ℕ}
-use mathlib.Core.Bool.{Bool, false, cond, _&&_}
+use mathlib.Core.Bool.{Bool, true, false, cond, _&&_}
 use mathlib.Core.Option.{Option, none, some}
 use lib.Dec.{eqb}
 use Rattle.device.specs.declared.Head.{Head}
@@ -10,18 +10,37 @@ use Rattle.device.specs.declared.Scope.{Scope}
 use Rattle.device.specs.declared.Scope.the-variants.{NoRow, EveryRow, OfInterface}
 use Rattle.requests.specs.declared.Requests.{Requests}
 use Rattle.requests.specs.Requests.{places, Free, lowest}
-use Rattle.events.specs.Meaning.{Class, Hello, Connect, Interfaces, Endpoints, Disconnect, Reset, Ack, Cancel, Filter, StartRequest, PlainRequest, StreamStatus, PlainReply, StreamData}
-use Rattle.events.specs.Event.{Event}
+use Rattle.events.specs.Meaning.{Class, Hello, Connect, Interfaces, Endpoints, Disconnect, Reset, Ack, Cancel, Filter, StartRequest, PlainRequest, StreamStatus, PlainReply, StreamOut, StreamIn}
+use Rattle.events.specs.Event.{Event, endpointIn}
 use Rattle.checks.specs.declared.Change.{Change}
 use Rattle.checks.specs.declared.Change.the-variants as changes
+use Rattle.checks.specs.declared.StreamMove.{StreamMove}
+use Rattle.checks.specs.declared.StreamMove.the-variants.{Opens, Closes, Stalls}
 use Rattle.checks.specs.declared.Ruling.{Ruling}
 use Rattle.checks.specs.declared.Ruling.the-variants.{Denied, Granted}
 use Rattle.checks.specs.Checks.{Match, Unmatched, Matched, matchOf, numberOf}
 
--- "a status opens if it answers a start with 0 and otherwise closes"
-abbrev pub opens : Event → Match → Bool
-opens e Unmatched = false
-opens e (Matched i q) = eqb (e .status) 0 && eqb (q .kind) (e .answers .first)
+-- "a status opens if it answers a start with 0 and otherwise closes"; with 4, a stall, the row's ids begin anew besides. A plain reply names no row that
+-- it could move.
+abbrev pub moveBy : ℕ → Bool → StreamMove
+moveBy status start = cond (eqb status 4) Stalls (cond (eqb status 0 && start) Opens Closes)
+
+abbrev pub answersStart : Event → Match → Bool
+answersStart e Unmatched = false
+answersStart e (Matched i q) = eqb (q .kind) (e .answers .first)
+
+abbrev pub moveOf : Event → Match → StreamMove
+moveOf e m = moveBy (e .status) (answersStart e m)
+
+abbrev pub isOpening : StreamMove → Bool
+isOpening Opens = true
+isOpening Closes = false
+isOpening Stalls = false
+
+abbrev pub isStall : StreamMove → Bool
+isStall Opens = false
+isStall Closes = false
+isStall Stalls = true
 
 -- "8 with status 0 to a 6 frees every data request .. and closes all streams. 11 with status 0 to a 9 does so for rows other than 0
 -- and 16 of that interface."
@@ -53,9 +72,11 @@ changeBy Cancel t e m = changes.NoChange
 changeBy Filter t e m = changes.NoChange
 changeBy StartRequest t e m = changes.TakeAndOpen (placeOr (lowest t Free)) (e .request) (e .typed)
 changeBy PlainRequest t e m = changes.Take (placeOr (lowest t Free)) (e .request)
-changeBy StreamStatus t e m = changes.Release (placeIn m) (e .typed) (opens e m) (scopeOf e m)
-changeBy PlainReply t e m = changes.Release (placeIn m) (e .typed) (opens e m) (scopeOf e m)
-changeBy StreamData t e m = changes.NoChange
+changeBy StreamStatus t e m = changes.Release (placeIn m) (e .typed) (moveOf e m) (scopeOf e m)
+changeBy PlainReply t e m = changes.Release (placeIn m) (e .typed) (moveOf e m) (scopeOf e m)
+changeBy StreamOut t e m = changes.NoChange
+-- "watch the ids of passed host packets of kinds 102, 103 IN and 104"
+changeBy StreamIn t e m = changes.Seen (endpointIn (e .typed)) (e .request .id)
 
 abbrev pub changeFor : Requests → Event → Match → Change
 changeFor t e m = changeBy (e .class) t e m

@@ -13,7 +13,7 @@ use Rattle.device.specs.Device.{stateAt, maskMistyped}
 use Rattle.requests.specs.declared.Request.{Request}
 use Rattle.requests.specs.declared.Requests.{Requests}
 use Rattle.requests.specs.Requests.{isSome, Free, Id, Settling, Answered, lowest, placeAt}
-use Rattle.events.specs.Meaning.{Class, Hello, Connect, Interfaces, Endpoints, Disconnect, Reset, Ack, Cancel, Filter, StartRequest, PlainRequest, StreamStatus, PlainReply, StreamData}
+use Rattle.events.specs.Meaning.{Class, Hello, Connect, Interfaces, Endpoints, Disconnect, Reset, Ack, Cancel, Filter, StartRequest, PlainRequest, StreamStatus, PlainReply, StreamOut, StreamIn}
 use Rattle.events.specs.declared.Typed.{Typed}
 use Rattle.events.specs.declared.Typed.the-variants.{Untyped, OfEndpoint, OfMask}
 use Rattle.events.specs.Event.{Event, isTransfer}
@@ -71,7 +71,8 @@ traitsOf StartRequest = requesting
 traitsOf PlainRequest = requesting
 traitsOf StreamStatus = reporting
 traitsOf PlainReply = replying
-traitsOf StreamData = streaming
+traitsOf StreamOut = streaming
+traitsOf StreamIn = streaming
 
 -- ---- 25: "All kinds but 0, 1, 4, 5, 22, 23, 24 get 25 without a device."
 
@@ -110,7 +111,8 @@ outOfOrder h StartRequest = false
 outOfOrder h PlainRequest = false
 outOfOrder h StreamStatus = false
 outOfOrder h PlainReply = false
-outOfOrder h StreamData = false
+outOfOrder h StreamOut = false
+outOfOrder h StreamIn = false
 
 -- ---- 28: "kinds 12, 13 and 102 want iso, ..": the row of its endpoint, or a row of its mask, has another type
 

@@ -19,11 +19,15 @@ use Rattle.events.specs.declared.Typed.{Typed}
 use Rattle.events.specs.declared.Reply.{Reply}
 use Rattle.events.specs.declared.Case.{Case}
 use Rattle.events.specs.declared.Case.the-variants as cases
-use Rattle.checks.specs.declared.Change.the-variants.{NoChange, Hello, Connect, Interfaces, Endpoints, Disconnect, Reset, Acknowledge, Take, TakeAndOpen, Release}
+use Rattle.checks.specs.declared.Change.{Change}
+use Rattle.checks.specs.declared.Change.the-variants.{NoChange, Seen, Hello, Connect, Interfaces, Endpoints, Disconnect, Reset, Acknowledge, Take, TakeAndOpen, Release}
+use Rattle.checks.specs.declared.StreamMove.{StreamMove}
+use Rattle.checks.specs.declared.StreamMove.the-variants.{Stalls}
 use Rattle.checks.specs.declared.Expected.{Expected}
 use Rattle.checks.specs.declared.Ruling.{Ruling}
 use Rattle.checks.specs.declared.Ruling.the-variants.{Denied, Granted, Pending}
 use Rattle.checks.specs.Checks.{isBegun, isDone, mistypedBy}
+use Rattle.checks.specs.Change.{moveBy}
 
 -- where there is a device
 abbrev pub withDevice : Head → Ruling → Ruling
@@ -43,9 +47,9 @@ askedBy d t q typed starts transfer =
 
 -- ---- a reply
 
--- no request is answered: only what may come unasked passes
+-- no request is answered: only what may come unasked passes, which is a stall
 abbrev pub unmatched : Typed → Bool → Ruling
-unmatched typed unasked = cond unasked (Granted (Release places typed false NoRow)) (Denied 33)
+unmatched typed unasked = cond unasked (Granted (Release places typed Stalls NoRow)) (Denied 33)
 
 -- a reply of a kind that may, with id 0 and status 4, comes unasked
 abbrev pub alone : Reply → Bool → Bool
@@ -64,37 +68,38 @@ abbrev pub repliedIn : Requests → Reply → Typed → Bool → Option ℕ → 
 repliedIn t r typed unasked none = unmatched typed (alone r unasked)
 repliedIn t r typed unasked (some i) =
     cond (eqb (getD (t .kinds) i 0) (r .answers .first) || eqb (getD (t .kinds) i 0) (r .answers .second))
-    (Pending i (expected r unasked) typed (eqb (r .status) 0 && eqb (getD (t .kinds) i 0) (r .answers .first)) (scopeTo r (getD (t .kinds) i 0)))
+    (Pending i (expected r unasked) typed (moveBy (r .status) (eqb (getD (t .kinds) i 0) (r .answers .first))) (scopeTo r (getD (t .kinds) i 0)))
     (unmatched typed (alone r unasked))
 
 -- the slot of the request at place i is there
-abbrev pub settledBy : ℕ → Expected → Typed → Bool → Scope → Slot → Ruling
-settledBy i x typed opens scope slot =
+abbrev pub settledBy : ℕ → Expected → Typed → StreamMove → Scope → Slot → Ruling
+settledBy i x typed stream scope slot =
     cond (not (x .targeted) || eqb (slot .target) (x .target))
-    (cond (ltb (slot .length) (x .length)) (Denied 34) (Granted (Release i typed opens scope)))
+    (cond (ltb (slot .length) (x .length)) (Denied 34) (Granted (Release i typed stream scope)))
     (unmatched typed (x .unasked))
 
 -- a ruling that waits for a slot
 abbrev pub settledIn : Ruling → Slot → Ruling
 settledIn (Denied n) slot = Denied n
 settledIn (Granted c) slot = Granted c
-settledIn (Pending i x typed opens scope) slot = settledBy i x typed opens scope slot
+settledIn (Pending i x typed stream scope) slot = settledBy i x typed stream scope slot
 
 -- the place whose slot it waits for, 96 where it waits for none
 abbrev pub awaited : Ruling → ℕ
 awaited (Denied n) = places
 awaited (Granted c) = places
-awaited (Pending i x typed opens scope) = i
+awaited (Pending i x typed stream scope) = i
 
 abbrev pub settled : Ruling → Requests → Ruling
 settled r t = settledIn r (getD (t .slots) (awaited r) freeSlot)
 
 -- ---- data on a stream
 
-abbrev pub streamedBy : Rows → Requests → Endpoint → ℕ → Bool → Ruling
-streamedBy d t e ty transfer =
+-- c: what it does where it passes
+abbrev pub streamedBy : Rows → Requests → Endpoint → ℕ → Bool → Change → Ruling
+streamedBy d t e ty transfer c =
     cond (eqb (stateAt d e .ty) ty)
-    (cond (transfer && isSome (lowest t Settling)) (Denied 29) (cond (stateAt d e .streaming) (Granted NoChange) (Denied 30)))
+    (cond (transfer && isSome (lowest t Settling)) (Denied 29) (cond (stateAt d e .streaming) (Granted c) (Denied 30)))
     (Denied 28)
 
 -- ---- each case
@@ -111,4 +116,5 @@ ruled h d t cases.Cancel = withDevice h (Granted NoChange)
 ruled h d t cases.Filter = Granted NoChange
 ruled h d t (cases.Asks q typed starts transfer) = withDevice h (askedBy d t q typed starts transfer)
 ruled h d t (cases.Answers r typed unasked) = withDevice h (repliedIn t r typed unasked (lowest t (Id (r .told .id))))
-ruled h d t (cases.Streams e ty transfer) = withDevice h (streamedBy d t e ty transfer)
+ruled h d t (cases.StreamsOut e ty transfer) = withDevice h (streamedBy d t e ty transfer NoChange)
+ruled h d t (cases.StreamsIn e ty id) = withDevice h (streamedBy d t e ty false (Seen e id))

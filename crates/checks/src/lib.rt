@@ -4,6 +4,7 @@ ghost use Rattle.device.specs.declared.Rows.{Rows};
 ghost use Rattle.requests.specs.declared.Requests.{Requests};
 ghost use Rattle.requests.specs.Requests.{Id, lowest, Lent};
 ghost use Rattle.checks.specs.Checks.{isBegun, isDone, mistypedBy};
+ghost use Rattle.checks.specs.Change.{moveBy};
 ghost use Rattle.checks.specs.Ruled.{askedBy, unmatched, scopeTo, settledBy, settledIn, awaited, repliedIn, streamedBy, ruled};
 ghost use Rattle.checks.specs.declared.Ruling.the-variants.{Granted, Denied};
 ghost use mathlib.Core.Bool.{cond};
@@ -30,6 +31,8 @@ use requests::kind_at;
 // What a packet that passes does.
 pub enum Change {
     NoChange,
+    // data of the host on a stream, with its id
+    Seen(Endpoint, u64),
     // a hello with its first capability word
     Hello(u32),
     Connect,
@@ -42,15 +45,22 @@ pub enum Change {
     Take(usize, Request),
     // and opens the stream of its row
     TakeAndOpen(usize, Request, Typed),
-    // a reply frees a place, 96 for none; it opens or closes the stream of its row; the rows whose data requests and streams end with it
-    Release(usize, Typed, bool, Scope),
+    // a reply frees a place, 96 for none; what it does to the stream of its row; the rows whose data requests and streams end with it
+    Release(usize, Typed, StreamMove, Scope),
+}
+
+// What a status does to the stream of its row: it closes it, opens it, or closes it by a stall.
+pub enum StreamMove {
+    Closes,
+    Opens,
+    Stalls,
 }
 
 pub enum Ruling {
     Denied(u8),
     Granted(Change),
     // a reply whose request is at a place, the slot of which decides: what it has to have; then what the reply does, as in Release
-    Pending(usize, Expected, Typed, bool, Scope),
+    Pending(usize, Expected, Typed, StreamMove, Scope),
 }
 
 // What the slot of a request has to have for its reply to pass: a length of at least this, and this endpoint or interface byte where
@@ -166,7 +176,7 @@ fn rule_unmatched(typed: Typed, unasked: bool) -> Ruling
     ensures { λ r. ⌜ r ≡ unmatched typed unasked ⌝ }
 {
     if unasked {
-        return Ruling::Granted(Change::Release(PLACES, typed, false, Scope::NoRow));
+        return Ruling::Granted(Change::Release(PLACES, typed, StreamMove::Stalls, Scope::NoRow));
     }
     Ruling::Denied(33)
 }
@@ -186,6 +196,20 @@ fn scope_to(r: Reply, kind: u8) -> Scope
         Scope::OfInterface(told.target)
     } else {
         Scope::NoRow
+    }
+}
+
+// What a status does to the stream of its row, where it answers a start or not.
+fn move_by(status: u8, start: bool) -> StreamMove
+    ensures { λ r. ⌜ r ≡ moveBy status start ⌝ }
+{
+    if status == 4 {
+        return StreamMove::Stalls;
+    }
+    if (status == 0) & start {
+        StreamMove::Opens
+    } else {
+        StreamMove::Closes
     }
 }
 
@@ -215,8 +239,8 @@ fn rule_reply<'a>(
                     targeted: a.targeted,
                     unasked: alone,
                 };
-                let opens = (r.status == 0) & (kind == a.first);
-                return Ruling::Pending(i, x, typed, opens, scope_to(r, kind));
+                let stream = move_by(r.status, kind == a.first);
+                return Ruling::Pending(i, x, typed, stream, scope_to(r, kind));
             }
             rule_unmatched(typed, alone)
         }
@@ -229,11 +253,11 @@ fn settle_reply(
     i: usize,
     x: Expected,
     typed: Typed,
-    opens: bool,
+    stream: StreamMove,
     scope: Scope,
     slot: Slot,
 ) -> Ruling
-    ensures { λ r. ⌜ r ≡ settledBy i x typed opens scope slot ⌝ }
+    ensures { λ r. ⌜ r ≡ settledBy i x typed stream scope slot ⌝ }
 {
     if x.targeted & (slot.target != x.target) {
         return rule_unmatched(typed, x.unasked);
@@ -241,7 +265,7 @@ fn settle_reply(
     if slot.length < x.length {
         return Ruling::Denied(34);
     }
-    Ruling::Granted(Change::Release(i, typed, opens, scope))
+    Ruling::Granted(Change::Release(i, typed, stream, scope))
 }
 
 // The place whose slot a ruling waits for, 96 where it waits for none.
@@ -262,11 +286,13 @@ pub fn settle_ruling(u: Ruling, slot: Slot) -> Ruling
     match u {
         Ruling::Denied(n) => Ruling::Denied(n),
         Ruling::Granted(c) => Ruling::Granted(c),
-        Ruling::Pending(i, x, typed, opens, scope) => settle_reply(i, x, typed, opens, scope, slot),
+        Ruling::Pending(i, x, typed, stream, scope) => {
+            settle_reply(i, x, typed, stream, scope, slot)
+        }
     }
 }
 
-// 28 to 30
+// 28 to 30, of data on a stream that does this where it passes
 fn rule_stream<'a>(
     types: &'a [u8; 32],
     streams: &'a [bool; 32],
@@ -276,8 +302,9 @@ fn rule_stream<'a>(
     e: Endpoint,
     ty: u8,
     transfer: bool,
+    c: Change,
 ) -> Ruling
-    ensures { λ r. ⌜ ((d : Rows) (t : Requests) → d .types ≡ now (types .entry) → d .streams ≡ now (streams .entry) → t .used ≡ used → t .live ≡ now (live .entry) → t .kinds ≡ now (kinds .entry) → r ≡ streamedBy d t e ty transfer) ⌝ }
+    ensures { λ r. ⌜ ((d : Rows) (t : Requests) → d .types ≡ now (types .entry) → d .streams ≡ now (streams .entry) → t .used ≡ used → t .live ≡ now (live .entry) → t .kinds ≡ now (kinds .entry) → r ≡ streamedBy d t e ty transfer c) ⌝ }
 {
     if type_at(types, e) != ty {
         return Ruling::Denied(28);
@@ -288,7 +315,7 @@ fn rule_stream<'a>(
         }
     }
     if is_streaming(streams, e) {
-        Ruling::Granted(Change::NoChange)
+        Ruling::Granted(c)
     } else {
         Ruling::Denied(30)
     }
@@ -353,9 +380,36 @@ pub fn rule<'a>(
                 Ruling::Denied(25)
             }
         }
-        Case::Streams(e, ty, transfer) => {
+        Case::StreamsOut(e, ty, transfer) => {
             if h.present {
-                rule_stream(types, streams, used, live, kinds, e, ty, transfer)
+                rule_stream(
+                    types,
+                    streams,
+                    used,
+                    live,
+                    kinds,
+                    e,
+                    ty,
+                    transfer,
+                    Change::NoChange,
+                )
+            } else {
+                Ruling::Denied(25)
+            }
+        }
+        Case::StreamsIn(e, ty, id) => {
+            if h.present {
+                rule_stream(
+                    types,
+                    streams,
+                    used,
+                    live,
+                    kinds,
+                    e,
+                    ty,
+                    false,
+                    Change::Seen(e, id),
+                )
             } else {
                 Ruling::Denied(25)
             }

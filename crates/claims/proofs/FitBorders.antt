@@ -4,6 +4,7 @@ use mathlib.Core.Path.{refl}
 use Rattle.scan.specs.Scan.{exists, tabulated}
 use Rattle.device.specs.Device.{rowsOf, startRows, startHead}
 use Rattle.requests.specs.Requests.{placesOf, placeAt, freshRequests, withRequest, idsDiffer, distinct, liveIds}
+use Rattle.watch.specs.Watch.{startWatch}
 use Rattle.session.specs.Session.{freshSession, unfit}
 use Rattle.claims.specs.FitBorders.{HeldCounts, IdBorders, LiveBelowUsed, ControlRows, FreshIs, FreshRows, FreshPlaces}
 
@@ -24,7 +25,7 @@ unfolding unfit freshRequests idsDiffer distinct liveIds exists placeAt placesOf
 control-rows = (refl, refl, refl, refl, refl)
 
 pub fresh-is : FreshIs
-unfolding freshSession startHead startRows freshRequests
+unfolding freshSession startHead startRows freshRequests startWatch
 fresh-is = refl
 
 pub fresh-rows : FreshRows

@@ -42,9 +42,9 @@ use Rattle.events.specs.declared.Typed.{Typed}
 use Rattle.events.specs.declared.Typed.the-variants.{Untyped, OfEndpoint, OfMask}
 use Rattle.events.specs.Event.{Event, eventOf, announcedIn}
 use Rattle.checks.specs.Checks.{traitsOf, matchOf}
-use Rattle.checks.specs.Change.{scopeOf, placeOr, placeIn, changeFor}
+use Rattle.checks.specs.Change.{scopeOf, placeOr, placeIn, isOpening, changeFor}
 use Rattle.checks.specs.declared.Change.{Change}
-use Rattle.checks.specs.declared.Change.the-variants.{NoChange, Hello as Greet, Connect, Interfaces, Endpoints, Disconnect, Reset, Acknowledge, Take, TakeAndOpen, Release}
+use Rattle.checks.specs.declared.Change.the-variants.{NoChange, Seen, Hello as Greet, Connect, Interfaces, Endpoints, Disconnect, Reset, Acknowledge, Take, TakeAndOpen, Release}
 use Rattle.session.specs.declared.Session.{Session}
 use Rattle.session.specs.Session.{freshSession, unfit, sharedIn}
 use Rattle.session.specs.Step.{applied, nextFor, judged, keptHello, deviceTo, headAfter, streamBy, rowsAfter, requestsAfter}
@@ -107,6 +107,7 @@ stream-by-control rows (OfMask m k) b = refl
 
 control-after : (rows new : Rows) → controlRows rows ≡ true → controlRows new ≡ true → (c : Change) → controlRows (rowsAfter rows c new) ≡ true
 control-after rows new h a NoChange = h
+control-after rows new h a (Seen x id) = h
 control-after rows new h a (Greet word) = h
 control-after rows new h a Connect = h
 control-after rows new h a Interfaces = h
@@ -116,7 +117,9 @@ control-after rows new h a Reset = closed-control rows EveryRow ∙ h
 control-after rows new h a Acknowledge = h
 control-after rows new h a (Take i q) = h
 control-after rows new h a (TakeAndOpen i q x) = stream-by-control rows x true ∙ h
-control-after rows new h a (Release i x b scope) = closed-control (streamBy rows x b) scope ∙ stream-by-control rows x b ∙ h
+control-after rows new h a (Release i x m scope) =
+    let b = isOpening m in
+    closed-control (streamBy rows x b) scope ∙ stream-by-control rows x b ∙ h
 
 pub kept-control : KeptControl
 unfolding nextFor applied
@@ -180,6 +183,7 @@ head-same h = device-alone h (h .present) (h .introduction) (h .owed)
 
 head-after : (h : Head) (from : Side) (c : Change) → HeadKept h (headAfter h from c)
 head-after h from NoChange = head-same h
+head-after h from (Seen x id) = head-same h
 head-after h from (Greet word) =
     record {
       guest = λ p. keptHello-once (isGuest from) (h .guest) word p .0;
@@ -195,7 +199,7 @@ head-after h from Reset = head-same h
 head-after h from Acknowledge = device-alone h (h .present) (h .introduction) false
 head-after h from (Take i q) = head-same h
 head-after h from (TakeAndOpen i q x) = head-same h
-head-after h from (Release i x b scope) = head-same h
+head-after h from (Release i x m scope) = head-same h
 
 head-kept : (s : Session) (e : Event) → HeadKept (s .head) (afterEvent s e .head)
 unfolding nextFor applied

@@ -7,6 +7,7 @@ pub mod Exchange
 pub mod NumberByKind
 pub mod Movements
 pub mod PacketLists
+pub mod Watched
 pub mod TestsInWords
 pub mod FitBorders
 pub mod Examples

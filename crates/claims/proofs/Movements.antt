@@ -9,7 +9,7 @@ use mathlib.Core.Path.{_≡_, refl, sym, ap, _∙_}
 use lib.Dec.{eqb}
 use borrow.Author.Tests.{eqb-true}
 use borrow.Table.Steps.{cases}
-use Rattle.octets.proofs.Logic.{and-parts, failing, or-none}
+use Rattle.octets.proofs.Logic.{and-parts, or-none}
 use Rattle.octets.specs.Little.{le}
 use Rattle.scan.proofs.Searches.{first-found, tabulated-at}
 use Rattle.endpoint.specs.declared.Endpoint.{Endpoint}
@@ -39,7 +39,7 @@ use Rattle.packet.specs.Rows.{element}
 use Rattle.events.specs.Meaning.{meanings}
 use Rattle.events.specs.Event.{Event, meaningOf, eventOf, announcedIn}
 use Rattle.checks.specs.Checks.{matchOf, matchIn, Match}
-use Rattle.checks.specs.Change.{scopeOf, opens}
+use Rattle.checks.specs.Change.{scopeOf, moveBy, answersStart, moveOf, isOpening}
 use Rattle.session.specs.declared.Session.{Session}
 use Rattle.session.specs.Session.{linkOf, sharedIn}
 use Rattle.session.specs.Step.{applied, nextFor, keptHello}
@@ -105,11 +105,19 @@ module _ (s : Session) (p : Content) where
   abbrev match : Match
   match = matchIn t (answeredAt t p)
 
-  opens-is : eqb 0 (e .answers .first) ≡ false → opens e match ≡ (eqb (e .status) 0 && eqb (answeredKind t p) (e .answers .first))
-  opens-is z = go (answeredAt t p)
+  abbrev opens : Bool
+  opens = isOpening (moveOf e match)
+
+  opens-is : eqb 0 (e .answers .first) ≡ false → opens ≡ (eqb (e .status) 0 && eqb (answeredKind t p) (e .answers .first))
+  opens-is z = opening (e .status) (answersStart e match) ∙ ap (λ (b : Bool). eqb (e .status) 0 && b) (go (answeredAt t p))
     where
-      go : (o : Option ℕ) → opens e (matchIn t o) ≡ (eqb (e .status) 0 && eqb (kindIn t o) (e .answers .first))
-      go none = sym (failing (eqb (e .status) 0) (eqb 0 (e .answers .first)) (λ x. z))
+      -- 0 is no stall
+      opening : (status : ℕ) (start : Bool) → isOpening (moveBy status start) ≡ (eqb status 0 && start)
+      opening status start =
+          cases (eqb status 4) (λ f. rw (eqb-true status 4 f)) (λ f. rw f (cases (eqb status 0 && start) (λ b. rw b) (λ b. rw b)))
+
+      go : (o : Option ℕ) → answersStart e (matchIn t o) ≡ eqb (kindIn t o) (e .answers .first)
+      go none = sym z
       go (some i) = refl
 
   -- the rows whose streams a reply to a request of this kind closes
@@ -159,11 +167,10 @@ module _ (s : Session) (p : Content) where
 
   -- after a status, which answers neither
   reported : (d : Rows) (r : ℕ) → r < 32 → (k : ℕ) → eqb 0 (e .answers .first) ≡ false → answersKind (p .kind) 6 ≡ false → answersKind (p .kind) 9 ≡ false
-      → rowAt (closed (streamTo d (endpointNamed p) k (opens e match)) (scopeOf e match)) r ≡ streamedRow d r (endpointNamed p) k (eqb (e .status) 0 && eqb (answeredKind t p) (e .answers .first))
+      → rowAt (closed (streamTo d (endpointNamed p) k opens) (scopeOf e match)) r ≡ streamedRow d r (endpointNamed p) k (eqb (e .status) 0 && eqb (answeredKind t p) (e .answers .first))
   reported d r h k z n m =
-      let b = opens e match in
       let x = endpointNamed p in
-      unchanged (streamTo d x k b) r h n m ∙ stream-at d x k b r h ∙ ap (streamedRow d r x k) (opens-is z)
+      unchanged (streamTo d x k opens) r h n m ∙ stream-at d x k opens r h ∙ ap (streamedRow d r x k) (opens-is z)
 
 -- ---- for each kind of the table, from whoever may send it
 

@@ -30,10 +30,10 @@ use Rattle.kinds.specs.Table.{Kind, kinds}
 use Rattle.kinds.specs.Content.{Content, find}
 use Rattle.kinds.specs.Number.{sends, wireNumber}
 use Rattle.kinds.proofs.RoundTrip.{clean, Clean}
-use Rattle.events.specs.Meaning.{Class, Hello, Connect, Interfaces, Endpoints, Disconnect, Reset, Ack, Cancel, Filter, StartRequest, PlainRequest, StreamStatus, PlainReply, StreamData}
+use Rattle.events.specs.Meaning.{Class, Hello, Connect, Interfaces, Endpoints, Disconnect, Reset, Ack, Cancel, Filter, StartRequest, PlainRequest, StreamStatus, PlainReply, StreamOut, StreamIn}
 use Rattle.events.specs.Event.{Event, eventOf}
 use Rattle.checks.specs.Checks.{traitsOf, outOfOrder, matchOf, numberFor, Matched, matchIn, isUnsolicited, numberOf, Match, Unmatched, isUnmatched, tooLong}
-use Rattle.checks.specs.Change.{scopeOf, placeOr, placeIn, opens, changeBy}
+use Rattle.checks.specs.Change.{scopeOf, placeOr, placeIn, moveOf, changeBy}
 use Rattle.checks.specs.declared.Change.the-variants.{Take, Release}
 use Rattle.session.specs.declared.Session.{Session}
 use Rattle.session.specs.Step.{applied, nextFor, judged, requestsAfter}
@@ -84,7 +84,8 @@ roleOf StartRequest = asking
 roleOf PlainRequest = asking
 roleOf StreamStatus = answering
 roleOf PlainReply = answering
-roleOf StreamData = leaving
+roleOf StreamOut = leaving
+roleOf StreamIn = leaving
 
 -- it takes a place
 abbrev pub isAsking : Role → Bool
@@ -102,7 +103,7 @@ isAnswering ending = false
 
 -- the requests after a reply
 abbrev pub answeredWith : Session → Event → Match → Requests
-answeredWith s e m = requestsAfter (s .requests) (s .rows) (Release (placeIn m) (e .typed) (opens e m) (scopeOf e m))
+answeredWith s e m = requestsAfter (s .requests) (s .rows) (Release (placeIn m) (e .typed) (moveOf e m) (scopeOf e m))
 
 -- the requests after a packet of this role
 abbrev pub requestsBy : Role → Session → Event → Match → Requests
@@ -138,7 +139,8 @@ does StartRequest = (refl, refl, tt, λ s e m. refl)
 does PlainRequest = (refl, refl, tt, λ s e m. refl)
 does StreamStatus = (refl, refl, λ h. (refl, refl, refl, refl, refl), λ s e m. refl)
 does PlainReply = (refl, refl, λ h. (refl, refl, refl, refl, refl), λ s e m. refl)
-does StreamData = (refl, refl, tt, λ s e m. refl)
+does StreamOut = (refl, refl, tt, λ s e m. refl)
+does StreamIn = (refl, refl, tt, λ s e m. refl)
 
 -- so a class that takes a place has that role, and the same for the other two
 request-does : (c : Class) → traitsOf c .request ≡ true → Does c asking

@@ -13,6 +13,7 @@ use Rattle.header.specs.declared.Side.the-variants.{Guest, Host}
 use Rattle.kinds.specs.Content.{Value, packetOf, one}
 use Rattle.kinds.specs.Number.{onward, wireNumber}
 use Rattle.events.specs.Event.{eventOf}
+use Rattle.watch.specs.Watch.{RowWatch, watchAt}
 use Rattle.session.specs.declared.Session.{Session}
 use Rattle.session.specs.Session.{freshSession, linkOf}
 use Rattle.session.specs.Step.{Judged, judged}
@@ -292,3 +293,23 @@ runs = devices ++ rowsAndSettling ++ onStreams ++ matching ++ settings
 -- each run gives its numbers
 abbrev pub AsExpected : Type 0
 AsExpected = answersOf runs ≡ expectedOf runs
+
+-- ---- C-11: the watch of endpoint 1 IN, whose row is 17, after packets from a device that is there, with ids of 64 bits
+
+abbrev watchAfterAll : List SentPacket → RowWatch
+watchAfterAll xs = watchAt (afterSent freshSession (hello-packets 255 ++ introduction ++ xs) .watch) 1
+
+-- (`watched-as-expected`)
+abbrev pub WatchedAsExpected : Type 0
+WatchedAsExpected =
+    -- 1, 2 and 3 are missing
+    (watchAfterAll (start-iso 1 129 ∷ iso-packet Host 0 129 ∷ iso-packet Host 4 129 ∷ []) ≡ record { expected = 5; gap = 3; breaks = 1 })
+    -- the same packet twice; a start sets back the expected id alone
+    × (watchAfterAll (start-iso 1 129 ∷ iso-packet Host 0 129 ∷ iso-packet Host 0 129 ∷ start-iso 2 129 ∷ []) ≡ record { expected = 0; gap = 18446744073709551615; breaks = 1 })
+    -- the last id of all, and 0 behind it
+    × (watchAfterAll (start-iso 1 129 ∷ iso-packet Host 18446744073709551615 129 ∷ iso-packet Host 0 129 ∷ []) ≡ record { expected = 1; gap = 18446744073709551615; breaks = 1 })
+    -- a status 0 sets nothing back, an unasked status 4 does
+    × (watchAfterAll (start-iso 1 129 ∷ iso-packet Host 0 129 ∷ iso-status 1 0 129 ∷ []) ≡ record { expected = 1; gap = 0; breaks = 0 })
+    × (watchAfterAll (start-iso 1 129 ∷ iso-packet Host 0 129 ∷ iso-status 0 4 129 ∷ []) ≡ record { expected = 0; gap = 0; breaks = 0 })
+    -- what is refused is not watched; a disconnect keeps count and gap
+    × (watchAfterAll (iso-packet Host 7 129 ∷ start-iso 1 129 ∷ iso-packet Host 2 129 ∷ disconnect-packet ∷ []) ≡ record { expected = 0; gap = 2; breaks = 1 })

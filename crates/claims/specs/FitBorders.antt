@@ -13,13 +13,14 @@ use Rattle.device.specs.declared.Rows.{Rows}
 use Rattle.requests.specs.declared.Request.{Request}
 use Rattle.requests.specs.declared.Requests.{Requests}
 use Rattle.requests.specs.Requests.{placesOf, freshRequests, withRequest, freePlace}
+use Rattle.watch.specs.Watch.{startWatch}
 use Rattle.session.specs.declared.Session.{Session}
 use Rattle.session.specs.Session.{freshSession, unfit}
 
 -- a session with these hellos and held counts, rows and requests
 abbrev sessionWith : HelloState → HelloState → ℕ → ℕ → Rows → Requests → Session
 sessionWith a b g h rows t =
-    record { head = record { guest = a; host = b; stopped = false; held = record { guest = g; host = h }; present = true; introduction = Unintroduced; owed = false }; rows = rows; requests = t }
+    record { head = record { guest = a; host = b; stopped = false; held = record { guest = g; host = h }; present = true; introduction = Unintroduced; owed = false }; rows = rows; requests = t; watch = startWatch }
 
 abbrev holding : HelloState → HelloState → ℕ → ℕ → Bool
 holding a b g h = unfit (sessionWith a b g h startRows freshRequests)
@@ -74,7 +75,7 @@ abbrev pub ControlRows : Type 0
 ControlRows =
     (rowTyped 0 2 ≡ true) × (rowTyped 16 255 ≡ true) × (rowTyped 0 0 ≡ false) × (rowTyped 1 0 ≡ false) × (rowTyped 31 7 ≡ false)
 
--- no hello has passed, nothing is stopped or held; no device, no introduction, no ack owed; rows and places as "Start" says
+-- no hello has passed, nothing is stopped or held; no device, no introduction, no ack owed; rows and places as "Start" says; of the watch all is 0
 abbrev pub FreshIs : Type 0
 FreshIs =
     freshSession
@@ -90,6 +91,7 @@ FreshIs =
             streams = replicate 32 false;
           };
       requests = record { used = 0; live = replicate 96 false; kinds = replicate 96 0; ids = replicate 96 0; slots = replicate 96 (record { length = 0; target = 0 }) };
+      watch = record { expected = replicate 16 0; gaps = replicate 16 0; breaks = replicate 16 0 };
     }
 
 -- its rows and places, one by one

@@ -5,6 +5,7 @@ pub mod Movements
 pub mod Exchange
 pub mod KeptByPacket
 pub mod PacketLists
+pub mod Watched
 pub mod TestsInWords
 pub mod FitBorders
 pub mod Examples

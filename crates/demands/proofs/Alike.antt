@@ -32,15 +32,15 @@ use Rattle.kinds.specs.Codec.{layout, contentAt, decode, orNext, readNumber, bo
 use Rattle.device.specs.declared.Introduction.{Introduction}
 use Rattle.device.specs.Device.{controlRows}
 use Rattle.requests.specs.Requests.{idsDiffer}
-use Rattle.events.specs.Meaning.{Class, Hello as Hello-class, Connect, Interfaces, Endpoints, Disconnect, Reset, Ack, Cancel, Filter, StartRequest, PlainRequest, StreamStatus, PlainReply, StreamData}
+use Rattle.events.specs.Meaning.{Class, Hello as Hello-class, Connect, Interfaces, Endpoints, Disconnect, Reset, Ack, Cancel, Filter, StartRequest, PlainRequest, StreamStatus, PlainReply, StreamOut, StreamIn}
 use Rattle.events.specs.Event.{Event}
 use Rattle.checks.specs.declared.Change.{Change}
 use Rattle.checks.specs.declared.Change.the-variants as changes
 use Rattle.checks.specs.Checks.{Match, outOfOrder, matchOf, numberFor}
 use Rattle.checks.specs.Change.{changeFor}
 use Rattle.session.specs.declared.Session.{Session}
-use Rattle.session.specs.Session.{linkOf, unfit}
-use Rattle.session.specs.Step.{keptHello, deviceTo, headAfter, applied, nextFor, Judged, judgedBy, judged}
+use Rattle.session.specs.Session.{linkOf, isWide, unfit}
+use Rattle.session.specs.Step.{keptHello, deviceTo, headAfter, watchAfter, applied, nextFor, Judged, judgedBy, judged}
 use Rattle.decoder.specs.Reading.{numbered, rowsAt, restAt, kindOr, readOf}
 use Rattle.frame.specs.Cut.{more, bad as refused, whole, cutOf}
 use Rattle.frame.specs.Frame.{headSize, headNumber, cutAt}
@@ -204,6 +204,7 @@ withHellos g h s =
           record { guest = g; host = h; stopped = s .head .stopped; held = s .head .held; present = s .head .present; introduction = s .head .introduction; owed = s .head .owed };
       rows = s .rows;
       requests = s .requests;
+      watch = s .watch;
     }
 
 -- what a session that is alike is
@@ -215,6 +216,7 @@ alike-is s t a =
           record { guest = t .head .guest; host = t .head .host; stopped = h .stopped i; held = h .held i; present = h .present i; introduction = h .introduction i; owed = h .owed i };
       rows = a .rows i;
       requests = a .requests i;
+      watch = a .watch i;
     }
 
 -- a hello comes, or not
@@ -291,7 +293,8 @@ module _ (s : Session) (g h : HelloState) (ag : AlikeHellos (s .head .guest) g) 
   order-same PlainRequest = refl
   order-same StreamStatus = refl
   order-same PlainReply = refl
-  order-same StreamData = refl
+  order-same StreamOut = refl
+  order-same StreamIn = refl
 
   -- a head of which the device's part alone is new
   device-same : (present : Bool) (i : Introduction) (o p : Bool) → o ≡ p
@@ -315,6 +318,7 @@ module _ (s : Session) (g h : HelloState) (ag : AlikeHellos (s .head .guest) g) 
 
   head-after : (from : Side) (c : Change) → AlikeHeads (headAfter (s .head) from c) (headAfter (t .head) from c)
   head-after from changes.NoChange = head-same
+  head-after from (changes.Seen e id) = head-same
   head-after from (changes.Hello word) = greet-same from word word (λ j l. refl)
   head-after from changes.Connect = device-same true (s .head .introduction) (s .head .owed) (s .head .owed) refl
   head-after from changes.Interfaces = device-same (s .head .present) _ (s .head .owed) (s .head .owed) refl
@@ -324,10 +328,14 @@ module _ (s : Session) (g h : HelloState) (ag : AlikeHellos (s .head .guest) g) 
   head-after from changes.Acknowledge = device-same (s .head .present) (s .head .introduction) false false refl
   head-after from (changes.Take i q) = head-same
   head-after from (changes.TakeAndOpen i q typed) = head-same
-  head-after from (changes.Release i typed opens scope) = head-same
+  head-after from (changes.Release i typed stream scope) = head-same
+
+  -- the width of ids is that of the shared set
+  watch-after : (c : Change) → watchAfter (s .watch) (isWide (s .head)) c ≡ watchAfter (s .watch) (isWide (t .head)) c
+  watch-after c = ap (λ (b : ℕ). watchAfter (s .watch) (hasBit b 5) c) (links Guest .set)
 
   pub alike : AlikeSessions s t
-  alike = record { head = head-same; rows = refl; requests = refl }
+  alike = record { head = head-same; rows = refl; requests = refl; watch = refl }
 
   number-same : (e : Event) (m : Match) → numberFor (s .head) (s .rows) (s .requests) e m ≡ numberFor (t .head) (s .rows) (s .requests) e m
   unfolding numberFor
@@ -342,14 +350,14 @@ module _ (s : Session) (g h : HelloState) (ag : AlikeHellos (s .head .guest) g) 
       go : (m : Match) (n : ℕ) → AlikeJudged (judgedBy s e m n) (judgedBy t e m n)
       go m n =
           cases (eqb n 0)
-          (λ z. rw z (record { session = record { head = head-after (e .sender) (changeFor (s .requests) e m); rows = refl; requests = refl }; number = refl }))
+          (λ z. rw z (record { session = record { head = head-after (e .sender) (changeFor (s .requests) e m); rows = refl; requests = refl; watch = watch-after (changeFor (s .requests) e m) }; number = refl }))
           (λ z. rw z (record { session = alike; number = refl }))
 
   pub refused-same : (kind : ℕ) → AlikeSessions (refusedAs s kind) (refusedAs t kind)
   refused-same kind = go (eqb kind 0)
     where
       go : (b : Bool) → AlikeSessions (cond b (stoppedNow s) s) (cond b (stoppedNow t) t)
-      go true = record { head = record { guest = ag; host = ah; stopped = refl; held = refl; present = refl; introduction = refl; owed = refl }; rows = refl; requests = refl }
+      go true = record { head = record { guest = ag; host = ah; stopped = refl; held = refl; present = refl; introduction = refl; owed = refl }; rows = refl; requests = refl; watch = refl }
       go false = alike
 
   -- ---- the writer

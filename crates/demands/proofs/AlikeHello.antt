@@ -219,7 +219,7 @@ module _ (a b : List ℕ) (e : Near a b) where
 
 -- it passes the session checks
 abbrev greets : Session → Side → ℕ → Judged
-greets s from w = record { session = record { head = headAfter (s .head) from (changes.Hello w); rows = s .rows; requests = s .requests }; number = 0 }
+greets s from w = record { session = record { head = headAfter (s .head) from (changes.Hello w); rows = s .rows; requests = s .requests; watch = s .watch }; number = 0 }
 
 judged-hello : (s : Session) (from : Side) (b : List ℕ) → judged s (eventOf from (helloIn b)) ≡ greets s from (le 4 (wordsIn b) 0)
 unfolding judged nextFor applied numberFor matchOf eventOf meaningOf meanings layout kinds
@@ -282,7 +282,7 @@ module _ (s : Session) (g h : HelloState) (ag : AlikeHellos (s .head .guest) g) 
         subst (λ (y : Judged). AlikeJudged (judged s (eventOf from (decode fore a))) y) (sym (ap (λ (c : Content). judged (withHellos g h s) (eventOf from c)) (decode-hello rear b zero-too) ∙ judged-hello (withHellos g h s) from b))
         (subst (λ (x : Judged). AlikeJudged x (greets (withHellos g h s) from (le 4 (wordsIn b) 0))) (sym (ap (λ (c : Content). judged s (eventOf from c)) (decode-hello fore a z) ∙ judged-hello s from a))
         (record {
-          session = record { head = greet-same s g h ag ah from (le 4 (wordsIn a) 0) (le 4 (wordsIn b) 0) (words-near a b e); rows = refl; requests = refl };
+          session = record { head = greet-same s g h ag ah from (le 4 (wordsIn a) 0) (le 4 (wordsIn b) 0) (words-near a b e); rows = refl; requests = refl; watch = refl };
           number = refl;
         }))
 

@@ -27,7 +27,7 @@ use Rattle.frame.specs.Frame.{cutAt, completed, headSize, headNumber}
 use Rattle.wire.specs.Usbredir.{usbredir}
 use Rattle.wire.specs.Told.{IsBad, bad-is, whole-is, IsWhole}
 use Rattle.decoder.specs.Reading.{readOf}
-use Rattle.events.specs.Meaning.{Class, Hello, Connect, Interfaces, Endpoints, Disconnect, Reset, Ack, Cancel, Filter, StartRequest, PlainRequest, StreamStatus, PlainReply, StreamData}
+use Rattle.events.specs.Meaning.{Class, Hello, Connect, Interfaces, Endpoints, Disconnect, Reset, Ack, Cancel, Filter, StartRequest, PlainRequest, StreamStatus, PlainReply, StreamOut, StreamIn}
 use Rattle.events.specs.Event.{Event, eventOf}
 use Rattle.checks.specs.Checks.{outOfOrder, matchOf, numberFor}
 use Rattle.checks.specs.Change.{changeFor}
@@ -70,10 +70,12 @@ module _ (d : Side) (n : ℕ) (s : Session) where
   order-as PlainRequest = refl
   order-as StreamStatus = refl
   order-as PlainReply = refl
-  order-as StreamData = refl
+  order-as StreamOut = refl
+  order-as StreamIn = refl
 
   head-as : (from : Side) (c : Change) → headAfter (heldAs d n s .head) from c ≡ heldTo d n (headAfter (s .head) from c .stopped) (headAfter (s .head) from c)
   head-as from changes.NoChange = refl
+  head-as from (changes.Seen e id) = refl
   head-as from (changes.Hello word) = refl
   head-as from changes.Connect = refl
   head-as from changes.Interfaces = refl
@@ -83,7 +85,7 @@ module _ (d : Side) (n : ℕ) (s : Session) where
   head-as from changes.Acknowledge = refl
   head-as from (changes.Take i q) = refl
   head-as from (changes.TakeAndOpen i q typed) = refl
-  head-as from (changes.Release i typed opens scope) = refl
+  head-as from (changes.Release i typed stream scope) = refl
 
   judged-as : (e : Event) → judged (heldAs d n s) e ≡ record { session = heldAs d n (judged s e .session); number = judged s e .number }
   unfolding judged nextFor applied numberFor
@@ -91,7 +93,7 @@ module _ (d : Side) (n : ℕ) (s : Session) where
       let next : Session = nextFor s e (matchOf (s .requests) e) in
       rw (order-as (e .class))
       (cases (eqb (numberFor (s .head) (s .rows) (s .requests) e (matchOf (s .requests) e)) 0)
-      (λ t. rw t (ap (λ (h : Head). record { session = record { head = h; rows = next .rows; requests = next .requests }; number = 0 }) (head-as (e .sender) (changeFor (s .requests) e (matchOf (s .requests) e)))))
+      (λ t. rw t (ap (λ (h : Head). record { session = record { head = h; rows = next .rows; requests = next .requests; watch = next .watch }; number = 0 }) (head-as (e .sender) (changeFor (s .requests) e (matchOf (s .requests) e)))))
       (λ t. rw t refl))
 
 refused-as : (d : Side) (n : ℕ) (s : Session) (kind : ℕ) → refusedAs (heldAs d n s) kind ≡ heldAs d n (refusedAs s kind)

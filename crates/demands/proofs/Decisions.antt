@@ -53,7 +53,7 @@ same-handed l b c (OnePacket h p) (OnePacket k q) e =
 abbrev isRefused : Ruling → Bool
 isRefused (Denied n) = true
 isRefused (Granted c) = false
-isRefused (Pending i x typed opens scope) = false
+isRefused (Pending i x typed stream scope) = false
 
 none-refused : (from : Side) (s : Session) (hold piece : List ℕ) → isRefused (rulingAt from s hold piece) ≡ false
 unfolding rulingAt
@@ -68,7 +68,7 @@ none-refused from s hold piece =
     answered : (u : Ruling) → isRefused (unrefused u) ≡ false
     answered (Denied n) = refl
     answered (Granted c) = refl
-    answered (Pending i x typed opens scope) = refl
+    answered (Pending i x typed stream scope) = refl
 
     by-cut : (bytes : List ℕ) (c : Cut) → isRefused (rulingByCut from s bytes c) ≡ false
     by-cut bytes more = refl
@@ -80,6 +80,7 @@ none-refused from s hold piece =
 -- no change moves the held bytes or the stop
 stays : (h : Head) (from : Side) (c : Change) → (headAfter h from c .held ≡ h .held) × (headAfter h from c .stopped ≡ h .stopped)
 stays h from changes.NoChange = (refl, refl)
+stays h from (changes.Seen e id) = (refl, refl)
 stays h from (changes.Hello word) = (refl, refl)
 stays h from changes.Connect = (refl, refl)
 stays h from changes.Interfaces = (refl, refl)
@@ -89,7 +90,7 @@ stays h from changes.Reset = (refl, refl)
 stays h from changes.Acknowledge = (refl, refl)
 stays h from (changes.Take i q) = (refl, refl)
 stays h from (changes.TakeAndOpen i q typed) = (refl, refl)
-stays h from (changes.Release i typed opens scope) = (refl, refl)
+stays h from (changes.Release i typed stream scope) = (refl, refl)
 
 same-count : (from : Side) (h : Held) (n m : ℕ) → countAs from n h ≡ countAs from m h → n ≡ m
 same-count Guest h n m e = ap (λ (x : Held). x .guest) e
@@ -116,7 +117,7 @@ module _ (from : Side) (s : Session) (piece after : List ℕ) where
   same-left : (d k : Decided) (u : Ruling) → outcomeBy from s (concludedBy d u) piece after ≡ outcomeBy from s (concludedBy k u) piece after → SameLeft d k
   same-left d k (Denied n) e = same-called (concludedBy d (Denied n)) (concludedBy k (Denied n)) e
   same-left d k (Granted c) e = same-called (concludedBy d (Granted c)) (concludedBy k (Granted c)) e
-  same-left d k (Pending i x typed opens scope) e = same-called (concludedBy d (Pending i x typed opens scope)) (concludedBy k (Pending i x typed opens scope)) e
+  same-left d k (Pending i x typed stream scope) e = same-called (concludedBy d (Pending i x typed stream scope)) (concludedBy k (Pending i x typed stream scope)) e
 
   module _ {hold : List ℕ} (d k : Decided) (a : Decides from s d hold piece after) (b : Decides from s k hold piece after) where
     settles : (e : Decided) → Decides from s e hold piece after → (u : Ruling) → rulingAt from s hold piece ≡ u
@@ -138,7 +139,7 @@ module _ (from : Side) (s : Session) (piece after : List ℕ) where
     told-alike (Granted c) q =
         let e = both (Granted c) q in
         (ap (λ (o : Outcome). o .number) e, same-handed (linkOf from s) _ _ (d .answer .handed) (k .answer .handed) (ap (λ (o : Outcome). o .handed) e))
-    told-alike (Pending i x typed opens scope) q =
+    told-alike (Pending i x typed stream scope) q =
         let y = a .told (ap waits (a .ruling ∙ q)) in
         let z = b .told (ap waits (b .ruling ∙ q)) in
         let r : readOf (linkOf from s) (bytesAt (d .answer .location) (d .answer .size) piece after) .handed ≡ readOf (linkOf from s) (bytesAt (k .answer .location) (k .answer .size) piece after) .handed =

@@ -42,16 +42,16 @@ barred-number : (from : Side) (s : Session) (hold : List ℕ) → among readNumb
 barred-number = barred-numbers (λ m. among readNumbers m ≡ true) (refl, (refl, (refl, (refl, (refl, tt)))))
 
 unchanged-same : (s : Session) → Unchanged s s
-unchanged-same s = record { guest = refl; host = refl; present = refl; introduction = refl; owed = refl; rows = refl; requests = refl }
+unchanged-same s = record { guest = refl; host = refl; present = refl; introduction = refl; owed = refl; rows = refl; requests = refl; watch = refl }
 
 unchanged-held : (d : Side) (n : ℕ) (s : Session) → Unchanged s (heldAs d n s)
-unchanged-held d n s = record { guest = refl; host = refl; present = refl; introduction = refl; owed = refl; rows = refl; requests = refl }
+unchanged-held d n s = record { guest = refl; host = refl; present = refl; introduction = refl; owed = refl; rows = refl; requests = refl; watch = refl }
 
 refused-same : (d : Side) (s : Session) (kind : ℕ) → Unchanged s (refusedAs (heldAs d 0 s) kind)
 refused-same d s kind = go (eqb kind 0)
   where
     go : (b : Bool) → Unchanged s (cond b (stoppedNow (heldAs d 0 s)) (heldAs d 0 s))
-    go true = record { guest = refl; host = refl; present = refl; introduction = refl; owed = refl; rows = refl; requests = refl }
+    go true = record { guest = refl; host = refl; present = refl; introduction = refl; owed = refl; rows = refl; requests = refl; watch = refl }
     go false = unchanged-held d 0 s
 
 -- of a whole packet's verdict
@@ -66,7 +66,7 @@ module _ (d : Side) (s : Session) (b : List ℕ) (n : ℕ) (e : cutAt (linkOf d 
       (λ t. rw t (λ z. subst (Unchanged s) (sym (refused-keeps (heldAs d 0 s) (eventOf d (decode (linkOf d s) (take n b))) z)) (unchanged-held d 0 s)))
       (λ t. rw t (λ z. refused-same d s (kindOf (take n b))))
 
--- by the ways of a call: each has its numbers, takes what is there, and moves hellos, device, rows and requests only at 0
+-- by the ways of a call: each has its numbers, takes what is there, and moves hellos, device, rows, requests and watch only at 0
 read-answered : (from : Side) (s : Session) (hold piece : List ℕ) → Answered s hold piece (offerOf from s hold piece)
 unfolding offerOf
 read-answered from s hold piece =
@@ -85,7 +85,7 @@ read-answered from s hold piece =
           number = subst (λ (m : ℕ). among readNumbers m ≡ true) (i .number) (header-numbers (λ m. among readNumbers m ≡ true) (refl, (refl, (refl, (refl, tt)))) (linkOf from s) (kindOf all) (lengthOf all));
           taken = omega (arith, w .there);
           buffer = completed-length hold piece (heldOf from s) (headSize (linkOf from s) all);
-          refusal = λ z. record { guest = refl; host = refl; present = refl; introduction = refl; owed = refl; rows = refl; requests = refl };
+          refusal = λ z. record { guest = refl; host = refl; present = refl; introduction = refl; owed = refl; rows = refl; requests = refl; watch = refl };
         }
     goes r (whole n) e =
         let w : WholeHere hold piece (heldOf from s) n = whole-here (linkOf from s) hold piece (heldOf from s) (r .room) (held-few from s (r .fit)) (r .begun) n e in

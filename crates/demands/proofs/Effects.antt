@@ -13,6 +13,8 @@ use Rattle.claims.specs.Exchange.{TakesPlace}
 use Rattle.claims.proofs.Exchange.{request-keeps}
 use Rattle.claims.specs.Movements.{Moved}
 use Rattle.claims.proofs.Movements.{moves}
+use Rattle.claims.specs.Watched.{WatchMoved}
+use Rattle.claims.proofs.Watched.{watch-moves}
 use Rattle.wire.specs.Told.{IsWhole, whole-is}
 use Rattle.wire.specs.Usbredir.{usbredir}
 use Rattle.gate.specs.Verdict.{heldAs}
@@ -33,10 +35,12 @@ module _ (from : Side) (s : Session) (hold piece : List ℕ) (h : Passes from s 
   effect : Effect from s p (offerOf from s hold piece .session)
   effect =
       let e = sym (moves-in-gate from s hold piece h) in
+      let m = subst (WatchMoved (heldAs from 0 s) from p) e (watch-moves (heldAs from 0 s) from p (h .form) zero-number) in
       record {
         moved = subst (Moved (heldAs from 0 s) from p) e (moves (heldAs from 0 s) from p (h .form) zero-number);
         request = λ r. subst (TakesPlace (heldAs from 0 s) p) e (request-keeps (heldAs from 0 s) from p (h .form) r zero-number);
         reply = reply-in-gate from s hold piece h;
+        watch = record { seen = m .seen; restart = m .restart; disconnect = m .disconnect; others = m .others };
       }
 
 -- the size of a packet that passes is that of the packet in front

@@ -88,7 +88,7 @@ module _ (b : Bool) (s : Session) (g h : HelloState) (ag : AlikeHellos (s .head 
       record {
         answers =
             record {
-              session = record { head = record { guest = ag; host = ah; stopped = refl; held = λ i. countAs from (n i) (s .head .held); present = refl; introduction = refl; owed = refl }; rows = refl; requests = refl };
+              session = record { head = record { guest = ag; host = ah; stopped = refl; held = λ i. countAs from (n i) (s .head .held); present = refl; introduction = refl; owed = refl }; rows = refl; requests = refl; watch = refl };
               number = refl;
               taken = count;
               location = refl;
@@ -163,7 +163,7 @@ module _ (b : Bool) (s : Session) (g h : HelloState) (ag : AlikeHellos (s .head 
         (record { session = stoppedNow (heldAs from 0 twin); number = n; handed = none })
         (size-at l m (links s g h ag ah from) _ _ starts)
         (record {
-          session = record { head = record { guest = ag; host = ah; stopped = refl; held = refl; present = refl; introduction = refl; owed = refl }; rows = refl; requests = refl };
+          session = record { head = record { guest = ag; host = ah; stopped = refl; held = refl; present = refl; introduction = refl; owed = refl }; rows = refl; requests = refl; watch = refl };
           number = refl;
           handed = no-hand b;
         })
@@ -253,18 +253,12 @@ same-hello from s t hold p q a first none-held e =
 same-run : SameRun
 same-run x y [] a e = (a, e)
 same-run x y (c ∷ cs) a e =
-    (q, same-run (next x c) (next y c) cs (q .answers .session) (holds (c .from) (answerTo x c .hold) (answerTo y c .hold) (q .hold)))
+    (q, same-run (next x c) (next y c) cs (q .answers .session) (λ d i. of-side (c .from) (q .hold i) (λ f. e f i) d))
   where
     q : AlikeOutcomes (answerTo x c) (answerTo y c)
     q =
         subst (λ (k : List ℕ). AlikeOutcomes (answerTo x c) (offerOf (c .from) (y .session) k (c .piece))) (e (c .from))
         (same-reader (c .from) (x .session) (y .session) (x .hold (c .from)) (c .piece) a)
-
-    holds : (f : Side) (k m : List ℕ) → k ≡ m → (d : Side) → of-side f k (x .hold) d ≡ of-side f m (y .hold) d
-    holds Guest k m r Guest = r
-    holds Guest k m r Host = e Host
-    holds Host k m r Guest = e Guest
-    holds Host k m r Host = r
 
 -- a call leaves the other direction's hello and count
 record OtherKept (from : Side) (s u : Session) : Type 0 where
@@ -281,6 +275,7 @@ other-stopped Host s = record { hello = refl; count = refl }
 
 other-hello : (from : Side) (s : Session) (c : Change) → begun (opposite from) s ≡ passed (own (linkTo (opposite from) (headAfter (heldAs from 0 s .head) from c)))
 other-hello Guest s changes.NoChange = refl
+other-hello Guest s (changes.Seen e id) = refl
 other-hello Guest s (changes.Hello word) = refl
 other-hello Guest s changes.Connect = refl
 other-hello Guest s changes.Interfaces = refl
@@ -290,8 +285,9 @@ other-hello Guest s changes.Reset = refl
 other-hello Guest s changes.Acknowledge = refl
 other-hello Guest s (changes.Take i q) = refl
 other-hello Guest s (changes.TakeAndOpen i q typed) = refl
-other-hello Guest s (changes.Release i typed opens scope) = refl
+other-hello Guest s (changes.Release i typed stream scope) = refl
 other-hello Host s changes.NoChange = refl
+other-hello Host s (changes.Seen e id) = refl
 other-hello Host s (changes.Hello word) = refl
 other-hello Host s changes.Connect = refl
 other-hello Host s changes.Interfaces = refl
@@ -301,7 +297,7 @@ other-hello Host s changes.Reset = refl
 other-hello Host s changes.Acknowledge = refl
 other-hello Host s (changes.Take i q) = refl
 other-hello Host s (changes.TakeAndOpen i q typed) = refl
-other-hello Host s (changes.Release i typed opens scope) = refl
+other-hello Host s (changes.Release i typed stream scope) = refl
 
 other-judged : (from : Side) (s : Session) (p : Content) → begun (opposite from) s ≡ begun (opposite from) (judged (heldAs from 0 s) (eventOf from p) .session)
 unfolding judged nextFor applied eventOf

@@ -20,4 +20,5 @@ pub mod AtWork
 pub mod Alike
 pub mod AlikeHello
 pub mod Ignored
+pub mod Watchless
 pub mod HelloHeader

@@ -16,6 +16,7 @@ use Rattle.decoder.specs.declared.Reading.{Reading}
 use Rattle.decoder.specs.declared.Reading.the-variants.{Refused, Decoded as Read}
 use Rattle.decoder.specs.Reading.{PacketTold, Told, told, toldBehind}
 use Rattle.device.specs.declared.Head.{Head}
+use Rattle.watch.specs.Watch.{startWatch}
 use Rattle.encoder.specs.declared.Written.{Written}
 use Rattle.session.specs.declared.Session.{Session}
 use Rattle.session.specs.Session.{linkOf}
@@ -57,7 +58,7 @@ one-offer from s hold piece r t after later a b = outcome-same (linkOf from s) p
 -- what is lent is lent by some session
 abbrev lender : Head → List ℕ → List Bool → ℕ → List Bool → List ℕ → List ℕ → Session
 lender h types streams used live kinds ids =
-    record { head = h; rows = record { types = types; interfaces = []; streams = streams }; requests = record { used = used; live = live; kinds = kinds; ids = ids; slots = [] } }
+    record { head = h; rows = record { types = types; interfaces = []; streams = streams }; requests = record { used = used; live = live; kinds = kinds; ids = ids; slots = [] }; watch = startWatch }
 
 -- the buffer after a decision is that of the call
 buffer-of : (from : Side) (s : Session) (d : Decided) (hold piece after : List ℕ) → Decides from s d hold piece after → after ≡ offerOf from s hold piece .hold

@@ -13,6 +13,7 @@ use Rattle.kinds.specs.Content.{one, Content, packetOf}
 use Rattle.device.specs.declared.Introduction.the-variants.{Two}
 use Rattle.device.specs.Device.{bulk, startRows}
 use Rattle.requests.specs.Requests.{freshRequests}
+use Rattle.watch.specs.Watch.{startWatch}
 use Rattle.wire.specs.Reader.{Call, this-way, other-way, Step, run, outs, taken, Cuts, accepted, joined}
 use Rattle.wire.specs.Usbredir.{usbredir}
 use Rattle.gate.specs.Offer.{offerOf}
@@ -27,6 +28,7 @@ start =
             head = record { guest = Passed 0; host = Passed 0; stopped = false; held = record { guest = 0; host = 0 }; present = true; introduction = Two; owed = false };
             rows = record { types = set (startRows .types) 2 bulk; interfaces = startRows .interfaces; streams = startRows .streams };
             requests = freshRequests;
+            watch = startWatch;
           };
       hold = replicate 32784 0;
       other = replicate 32784 0;

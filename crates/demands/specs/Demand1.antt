@@ -23,7 +23,7 @@ readNumbers = 0 ∷ 1 ∷ 2 ∷ 3 ∷ 10 ∷ 11 ∷ 12 ∷ 13 ∷ 20 ∷ 21 ∷ 
 abbrev pub writeNumbers : List ℕ
 writeNumbers = 0 ∷ 2 ∷ 3 ∷ 10 ∷ 11 ∷ 12 ∷ 13 ∷ 20 ∷ 21 ∷ 22 ∷ 23 ∷ 24 ∷ 40 ∷ 43 ∷ []
 
--- what a refusal leaves: hellos, the device, the rows of its endpoints with their streams, and the requests
+-- what a refusal leaves: hellos, the device, the rows of its endpoints with their streams, the requests, and the watch
 pub record Unchanged (s t : Session) : Type 0 where
   pub guest : t .head .guest ≡ s .head .guest
   pub host : t .head .host ≡ s .head .host
@@ -32,6 +32,7 @@ pub record Unchanged (s t : Session) : Type 0 where
   pub owed : t .head .owed ≡ s .head .owed
   pub rows : t .rows ≡ s .rows
   pub requests : t .requests ≡ s .requests
+  pub watch : t .watch ≡ s .watch
 
 -- of a reader call
 pub record Answered (s : Session) (hold piece : List ℕ) (o : Outcome) : Type 0 where

@@ -1,5 +1,5 @@
--- What a packet that passes does, of the gate's call and in the rules' words: what it moves, the place that a request takes, and the request
--- that a reply consumes.
+-- What a packet that passes does, of the gate's call and in the rules' words: what it moves, the place that a request takes, the request that a
+-- reply consumes, and the watch of each IN row.
 -- Assumes nothing: these are definitions, and the statement that `proofs/Effects.antt` proves.
 use Prim.Native.Nat.{ℕ}
 use mathlib.Core.Bool.{true}
@@ -12,6 +12,7 @@ use Rattle.session.specs.declared.Session.{Session}
 use Rattle.claims.specs.Allowed.{isRequest, isReply, inwardOf, Unsolicited}
 use Rattle.claims.specs.Exchange.{TakesPlace, Consumes}
 use Rattle.claims.specs.Movements.{Moved}
+use Rattle.claims.specs.Watched.{WatchMoved}
 use Rattle.gate.specs.Verdict.{heldAs}
 use Rattle.gate.specs.Offer.{offerOf}
 use Rattle.demands.specs.PassesInWords.{packetIn}
@@ -25,6 +26,8 @@ pub record Effect (from : Side) (s : Session) (p : Content) (next : Session) : T
   -- a reply consumes the one request that it answers; an unsolicited status changes no request
   pub reply : isReply from (p .kind) (inwardOf p) ≡ true
       → ((i : ℕ) × Consumes (heldAs from 0 s) p next i) ⊎ (Unsolicited (s .requests) p × (next .requests ≡ s .requests))
+  -- the watch of each IN row
+  pub watch : WatchMoved s from p next
 
 -- Where a call answers 0, the packet in front of what it has at hand has its effect on the session that the call gives back.
 abbrev pub EffectInGate : Type 0

@@ -50,6 +50,7 @@ pub record AlikeSessions (s t : Session) : Type 0 where
   pub head : AlikeHeads (s .head) (t .head)
   pub rows : s .rows ≡ t .rows
   pub requests : s .requests ≡ t .requests
+  pub watch : s .watch ≡ t .watch
 
 -- ---- bytes and packets of a direction
 

@@ -16,4 +16,5 @@ pub mod PassesInWords
 pub mod WriterNumbers
 pub mod AtWork
 pub mod Ignored
+pub mod Watchless
 pub mod HelloHeader

@@ -20,6 +20,7 @@ use Rattle.device.specs.Device.{bulk, startRows}
 use Rattle.device.specs.declared.Introduction.the-variants.{Two}
 use Rattle.requests.specs.declared.Requests.{Requests}
 use Rattle.requests.specs.Requests.{freshRequests, withRequest}
+use Rattle.watch.specs.Watch.{startWatch}
 use Rattle.kinds.specs.Content.{Content, packetOf, one}
 use Rattle.decoder.specs.Reading.{PacketTold}
 use Rattle.session.specs.declared.Session.{Session}
@@ -46,6 +47,7 @@ deviceSession word requests =
           };
       rows = record { types = set (startRows .types) 2 bulk; interfaces = startRows .interfaces; streams = startRows .streams };
       requests = requests;
+      watch = startWatch;
     }
 
 -- with two holding buffers of the least size

@@ -18,6 +18,7 @@ use Rattle.header.specs.Link.{isGuest}
 use Rattle.kinds.specs.Table.{kinds}
 use Rattle.kinds.specs.Codec.{layout}
 use Rattle.packet.proofs.Packet.{the-type}
+use Rattle.packet.specs.declared.Iso.{Iso as IsoFields}
 use Rattle.packet.specs.declared.Interrupt.{Interrupt as InterruptFields}
 use Rattle.packet.specs.declared.Packet.{Packet}
 use Rattle.packet.specs.declared.Packet.the-variants.{Hello, Connect, Disconnect, Reset, InterfaceTable, EndpointTable, SetConfiguration, GetConfiguration, ConfigurationStatus, SetAlt, GetAlt, AltStatus, StartIso, StopIso, IsoStatus, StartInterrupt, StopInterrupt, InterruptStatus, AllocStreams, FreeStreams, StreamsStatus, Cancel, FilterReject, Filter, DisconnectAck, StartBulkReceiving, StopBulkReceiving, BulkReceivingStatus, Control, Bulk, Iso, Interrupt, BufferedBulk}
@@ -87,10 +88,10 @@ builds from id (StopBulkReceiving x) body = asks 26 id (x .endpoint .0) 0 (OfEnd
 builds from id (BulkReceivingStatus x) body = reports 27 id (x .endpoint) bulk (x .status) 25 26
 builds from id (Control x) body = transfers from 100 id (x .endpoint) control (x .length) (x .status)
 builds from id (Bulk x) body = transfers from 101 id (x .endpoint) bulk (x .length) (x .status)
-builds from id (Iso x) body = cases.Streams (x .endpoint) iso (isGuest from)
+builds from id (Iso x) body = cond (isGuest from) (cases.StreamsOut (x .endpoint) iso true) (cases.StreamsIn (x .endpoint) iso id)
 builds from id (Interrupt x) body =
-    cond (not (isGuest from) && isIn (x .endpoint)) (cases.Streams (x .endpoint) interrupt false) (transfers from 103 id (x .endpoint) interrupt (x .length) (x .status))
-builds from id (BufferedBulk x) body = cases.Streams (x .endpoint) bulk false
+    cond (not (isGuest from) && isIn (x .endpoint)) (cases.StreamsIn (x .endpoint) interrupt id) (transfers from 103 id (x .endpoint) interrupt (x .length) (x .status))
+builds from id (BufferedBulk x) body = cases.StreamsIn (x .endpoint) bulk id
 
 -- ---- is what the packet means
 
@@ -147,9 +148,14 @@ means Host id (Interrupt x) body caps = either (isIn (x .endpoint)) (λ t. rw t)
 means Guest id (BufferedBulk x) body caps = refl
 means Host id (BufferedBulk x) body caps = refl
 
+-- an iso packet, by the test of the code
+pub iso-means : (from : Side) (id : ℕ) (x : IsoFields) (body : List ℕ) (g b : Bool) → g ≡ isGuest from → g ≡ b
+    → Shows from id (Iso x) body (cond b (cases.StreamsOut (x .endpoint) iso true) (cases.StreamsIn (x .endpoint) iso id))
+iso-means from id x body g b p t = rw (← t, p) (means from id (Iso x) body)
+
 -- an interrupt packet, by the two tests of the code
 pub interrupt-means : (from : Side) (id : ℕ) (x : InterruptFields) (body : List ℕ) (g i b : Bool) → g ≡ isGuest from → i ≡ isIn (x .endpoint) → (not g && i) ≡ b
-    → Shows from id (Interrupt x) body (cond b (cases.Streams (x .endpoint) interrupt false) (transfers from 103 id (x .endpoint) interrupt (x .length) (x .status)))
+    → Shows from id (Interrupt x) body (cond b (cases.StreamsIn (x .endpoint) interrupt id) (transfers from 103 id (x .endpoint) interrupt (x .length) (x .status)))
 interrupt-means from id x body g i b p q t = rw (← t, p, q) (means from id (Interrupt x) body)
 
 -- ---- the rows of any packet but an endpoint table, whose key is 5

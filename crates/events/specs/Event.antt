@@ -30,7 +30,7 @@ use Rattle.events.specs.declared.Typed.the-variants.{Untyped, OfEndpoint
 use Rattle.events.specs.declared.Reply.{Reply}
 use Rattle.events.specs.declared.Case.{Case}
 use Rattle.events.specs.declared.Case.the-variants as cases
-use Rattle.events.specs.Meaning.{Class, Hello, Connect, Interfaces, Endpoints, Disconnect, Reset, Ack, Cancel, Filter, StartRequest, PlainRequest, StreamStatus, PlainReply, StreamData, About, nothing, endpoint, interface, mask, Meaning, meanings, lookUp}
+use Rattle.events.specs.Meaning.{Class, Hello, Connect, Interfaces, Endpoints, Disconnect, Reset, Ack, Cancel, Filter, StartRequest, PlainRequest, StreamStatus, PlainReply, StreamOut, StreamIn, About, nothing, endpoint, interface, mask, Meaning, meanings, lookUp}
 
 -- a packet as the session sees it
 pub record Event : Type 0 where
@@ -142,7 +142,8 @@ caseBy StartRequest e = cases.Asks (e .request) (e .typed) true (isTransfer e)
 caseBy PlainRequest e = cases.Asks (e .request) (e .typed) false (isTransfer e)
 caseBy StreamStatus e = cases.Answers (replyOf e) (e .typed) true
 caseBy PlainReply e = cases.Answers (replyOf e) (e .typed) false
-caseBy StreamData e = cases.Streams (endpointIn (e .typed)) (typeIn (e .typed)) (isTransfer e)
+caseBy StreamOut e = cases.StreamsOut (endpointIn (e .typed)) (typeIn (e .typed)) (isTransfer e)
+caseBy StreamIn e = cases.StreamsIn (endpointIn (e .typed)) (typeIn (e .typed)) (e .request .id)
 
 abbrev pub caseOf : Event → Case
 caseOf e = caseBy (e .class) e

@@ -17,7 +17,7 @@ use Rattle.packet.specs.declared.Optional32.{Optional32}
 use Rattle.packet.specs.declared.Optional32.the-variants.{Absent, Present}
 use Rattle.packet.specs.Rows.{wordOf as rowsWord}
 use Rattle.device.specs.Device.{control, iso, bulk, interrupt, invalid}
-use Rattle.events.specs.Meaning.{Class, Hello, Connect, Interfaces, Endpoints, Disconnect, Reset, Ack, Cancel, Filter, StartRequest, PlainRequest, StreamStatus, PlainReply, StreamData, Who, sender, guest, host-in, Line, meanings, admits, lookUp}
+use Rattle.events.specs.Meaning.{Class, Hello, Connect, Interfaces, Endpoints, Disconnect, Reset, Ack, Cancel, Filter, StartRequest, PlainRequest, StreamStatus, PlainReply, StreamOut, StreamIn, Who, sender, guest, host, host-in, Line, meanings, admits, lookUp}
 use Rattle.events.specs.Event.{eventOf}
 
 -- ---- lines by their class
@@ -37,7 +37,8 @@ tag StartRequest = 9
 tag PlainRequest = 10
 tag StreamStatus = 11
 tag PlainReply = 12
-tag StreamData = 13
+tag StreamOut = 13
+tag StreamIn = 14
 
 -- a class is one of these
 abbrev pub among : List Class → Class → Bool
@@ -102,7 +103,7 @@ pub typed-kinds : shown typed typeOf meanings
     ∷ (15, sender, interrupt) ∷ (16, sender, interrupt) ∷ (17, sender, interrupt)
     ∷ (18, sender, bulk) ∷ (19, sender, bulk)
     ∷ (25, sender, bulk) ∷ (26, sender, bulk) ∷ (27, sender, bulk)
-    ∷ (100, guest, control) ∷ (101, guest, bulk) ∷ (102, sender, iso)
+    ∷ (100, guest, control) ∷ (101, guest, bulk) ∷ (102, guest, iso) ∷ (102, host, iso)
     ∷ (103, guest, interrupt) ∷ (103, host-in, interrupt) ∷ (104, sender, bulk) ∷ [])
 unfolding meanings
 typed-kinds = refl
@@ -147,7 +148,7 @@ sentAs cs from inward [] = []
 sentAs cs from inward (k ∷ ks) =
     cond (sends (k .sender) from && among cs (lookUp meanings from (k .number) inward .class)) (k .number ∷ sentAs cs from inward ks) (sentAs cs from inward ks)
 
--- on an OUT endpoint and on an IN one: the guest makes the requests; the host sends the replies, and 103 IN as stream data
+-- on an OUT endpoint and on an IN one: the guest makes the requests; the host sends the replies, and 102, 103 IN and 104 as stream data
 pub by-sender : (sentAs requests Guest false kinds ≡ requestKinds)
     × (sentAs requests Guest true kinds ≡ requestKinds)
     × (sentAs requests Host false kinds ≡ [])
@@ -156,12 +157,16 @@ pub by-sender : (sentAs requests Guest false kinds ≡ requestKinds)
     × (sentAs replies Guest true kinds ≡ [])
     × (sentAs replies Host false kinds ≡ (8 ∷ 11 ∷ 14 ∷ 17 ∷ 20 ∷ 27 ∷ 100 ∷ 101 ∷ 103 ∷ []))
     × (sentAs replies Host true kinds ≡ (8 ∷ 11 ∷ 14 ∷ 17 ∷ 20 ∷ 27 ∷ 100 ∷ 101 ∷ []))
-    × (sentAs (StreamData ∷ []) Guest false kinds ≡ (102 ∷ []))
-    × (sentAs (StreamData ∷ []) Guest true kinds ≡ (102 ∷ []))
-    × (sentAs (StreamData ∷ []) Host false kinds ≡ (102 ∷ 104 ∷ []))
-    × (sentAs (StreamData ∷ []) Host true kinds ≡ (102 ∷ 103 ∷ 104 ∷ []))
+    × (sentAs (StreamOut ∷ []) Guest false kinds ≡ (102 ∷ []))
+    × (sentAs (StreamOut ∷ []) Guest true kinds ≡ (102 ∷ []))
+    × (sentAs (StreamOut ∷ []) Host false kinds ≡ [])
+    × (sentAs (StreamOut ∷ []) Host true kinds ≡ [])
+    × (sentAs (StreamIn ∷ []) Guest false kinds ≡ [])
+    × (sentAs (StreamIn ∷ []) Guest true kinds ≡ [])
+    × (sentAs (StreamIn ∷ []) Host false kinds ≡ (102 ∷ 104 ∷ []))
+    × (sentAs (StreamIn ∷ []) Host true kinds ≡ (102 ∷ 103 ∷ 104 ∷ []))
 unfolding kinds meanings
-by-sender = (refl, refl, refl, refl, refl, refl, refl, refl, refl, refl, refl, refl)
+by-sender = (refl, refl, refl, refl, refl, refl, refl, refl, refl, refl, refl, refl, refl, refl, refl, refl)
 
 -- ---- the word of a hello
 

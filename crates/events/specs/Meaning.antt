@@ -10,9 +10,9 @@ use Rattle.header.specs.declared.Side.{Side}
 use Rattle.device.specs.Device.{control, iso, bulk, interrupt}
 
 -- what a packet is to the session; two classes of requests and two of replies differ in what they do to a stream: a start opens one, and a
--- stream's status answers a start or a stop, or comes unasked
+-- stream's status answers a start or a stop, or comes unasked; of data on a stream, that of the host is watched
 pub data Class : Type 0 where
-  Hello Connect Interfaces Endpoints Disconnect Reset Ack Cancel Filter StartRequest PlainRequest StreamStatus PlainReply StreamData : Class
+  Hello Connect Interfaces Endpoints Disconnect Reset Ack Cancel Filter StartRequest PlainRequest StreamStatus PlainReply StreamOut StreamIn : Class
 
 -- what a packet is about, by the field that names it
 pub data About : Type 0 where
@@ -57,9 +57,12 @@ answers a m n = record { class = PlainReply; about = a; wants = none; first = m;
 abbrev reports : ℕ → ℕ → ℕ → Meaning
 reports k start stop = record { class = StreamStatus; about = endpoint; wants = some k; first = start; second = stop }
 
--- data on a stream of this type
-abbrev streams : ℕ → Meaning
-streams k = record { class = StreamData; about = endpoint; wants = some k; first = 0; second = 0 }
+-- data on a stream of this type, from the guest and from the host
+abbrev streams-out : ℕ → Meaning
+streams-out k = record { class = StreamOut; about = endpoint; wants = some k; first = 0; second = 0 }
+
+abbrev streams-in : ℕ → Meaning
+streams-in k = record { class = StreamIn; about = endpoint; wants = some k; first = 0; second = 0 }
 
 -- whose packets of a kind have the meaning: of whoever may send it, or of one end, or of the host on an endpoint of one direction
 pub data Who : Type 0 where
@@ -109,11 +112,12 @@ meanings =
     ∷ line 100 host (answers endpoint 100 100)
     ∷ line 101 guest (requests-on bulk)
     ∷ line 101 host (answers endpoint 101 101)
-    ∷ line 102 sender (streams iso)
+    ∷ line 102 guest (streams-out iso)
+    ∷ line 102 host (streams-in iso)
     ∷ line 103 guest (requests-on interrupt)
-    ∷ line 103 host-in (streams interrupt)
+    ∷ line 103 host-in (streams-in interrupt)
     ∷ line 103 host-out (answers endpoint 103 103)
-    ∷ line 104 sender (streams bulk)
+    ∷ line 104 sender (streams-in bulk)
     ∷ []
 
 -- ---- the line of a packet, by its kind, its sender and whether its endpoint is IN

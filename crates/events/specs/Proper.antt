@@ -1,5 +1,5 @@
 -- What the class of a packet says of its kind and of its rows, for every packet, also of a kind that is not known: a transfer is a plain request
--- or stream data (`transfer-asks`), and stream data wants its endpoint to have a type (`stream-typed`).
+-- or stream data of the guest (`transfer-asks`), and stream data wants its endpoint to have a type (`stream-typed`).
 -- The kind of a transfer is one of four numbers (`one-of-four`), and the line of each is computed. What holds of the meaning of each line, and of
 -- that for a packet without a line, holds of the meaning that `lookUp` finds (`found`): a test over the lines of the table.
 -- Assumes nothing.
@@ -20,7 +20,7 @@ use Rattle.header.specs.Link.{isGuest}
 use Rattle.kinds.specs.Content.{Content}
 use Rattle.events.specs.declared.Typed.{Typed}
 use Rattle.events.specs.declared.Typed.the-variants.{Untyped, OfEndpoint, OfMask}
-use Rattle.events.specs.Meaning.{Class, Cancel, PlainRequest, StreamData, Meaning, plain, Line, meanings, admits, lookUp}
+use Rattle.events.specs.Meaning.{Class, Cancel, PlainRequest, StreamOut, StreamIn, Meaning, plain, Line, meanings, admits, lookUp}
 use Rattle.events.specs.Event.{meaningOf, typedOf, eventOf, isTransfer}
 use Rattle.events.specs.Examples.{among}
 
@@ -34,7 +34,7 @@ one-of-four P k low high a b c d =
     (λ u. let e : k ≡ 103 = omega (arith, eqb-false k 100 s, eqb-false k 101 t, eqb-false k 102 u) in rw e d)))
 
 abbrev Asks : Class → Type 0
-Asks c = (c ≡ PlainRequest) ⊎ (c ≡ StreamData)
+Asks c = (c ≡ PlainRequest) ⊎ (c ≡ StreamOut)
 
 guest-asks : (from : Side) (k : ℕ) (inward : Bool) → (isGuest from && leb 100 k && leb k 103) ≡ true → Asks (lookUp meanings from k inward .class)
 unfolding meanings
@@ -44,7 +44,7 @@ guest-asks Guest k inward h =
 guest-asks Host k inward h = absurd (false≢true h)
 
 pub transfer-asks : (from : Side) (p : Content) → isTransfer (eventOf from p) ≡ true
-    → (eventOf from p .class ≡ PlainRequest) ⊎ (eventOf from p .class ≡ StreamData)
+    → (eventOf from p .class ≡ PlainRequest) ⊎ (eventOf from p .class ≡ StreamOut)
 unfolding eventOf meaningOf
 transfer-asks from p h = guest-asks from (p .kind) _ h
 
@@ -73,18 +73,22 @@ isOfEndpoint Untyped = false
 isOfEndpoint (OfEndpoint x k) = true
 isOfEndpoint (OfMask m k) = false
 
+-- data on a stream, of either end
+abbrev pub isStream : Class → Bool
+isStream c = among (StreamOut ∷ StreamIn ∷ []) c
+
 -- a meaning that is stream data wants an endpoint's type
 abbrev proper : Content → Meaning → Bool
-proper p m = not (among (StreamData ∷ []) (m .class)) || isOfEndpoint (typedOf (m .wants) (m .about) p)
+proper p m = not (isStream (m .class)) || isOfEndpoint (typedOf (m .wants) (m .about) p)
 
 all-proper : (p : Content) → each (proper p) meanings ≡ true
 unfolding meanings
 all-proper p = refl
 
-pub stream-typed : (from : Side) (p : Content) → eventOf from p .class ≡ StreamData → (x : Endpoint) × (k : ℕ) × (eventOf from p .typed ≡ OfEndpoint x k)
+pub stream-typed : (from : Side) (p : Content) → isStream (eventOf from p .class) ≡ true → (x : Endpoint) × (k : ℕ) × (eventOf from p .typed ≡ OfEndpoint x k)
 unfolding eventOf meaningOf
 stream-typed from p h =
-    of _ (implied _ _ (found (proper p) meanings from (p .kind) _ refl (all-proper p)) (ap (among (StreamData ∷ [])) h))
+    of _ (implied _ _ (found (proper p) meanings from (p .kind) _ refl (all-proper p)) h)
   where
     of : (t : Typed) → isOfEndpoint t ≡ true → (x : Endpoint) × (k : ℕ) × (t ≡ OfEndpoint x k)
     of Untyped e = absurd (false≢true e)

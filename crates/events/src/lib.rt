@@ -52,8 +52,10 @@ pub enum Case {
     Asks(Request, Typed, bool, bool),
     // a reply: whether it may come unasked
     Answers(Reply, Typed, bool),
-    // data on a stream of this type: whether it is a transfer
-    Streams(Endpoint, u8, bool),
+    // data on a stream of this type, from the guest: whether it is a transfer
+    StreamsOut(Endpoint, u8, bool),
+    // from the host: its id
+    StreamsIn(Endpoint, u8, u64),
 }
 
 // A request about nothing, or about an interface.
@@ -257,18 +259,21 @@ pub fn case_of(from: Side, id: u64, p: Packet, body: &[u8]) -> Case
         }
         Packet::Iso(x) => {
             let endpoint = x.endpoint;
-            Case::Streams(endpoint, 1, is_guest(from))
+            if is_guest(from) {
+                return Case::StreamsOut(endpoint, 1, true);
+            }
+            Case::StreamsIn(endpoint, 1, id)
         }
         Packet::Interrupt(x) => {
             let endpoint = x.endpoint;
             if !is_guest(from) & is_in(endpoint) {
-                return Case::Streams(endpoint, 3, false);
+                return Case::StreamsIn(endpoint, 3, id);
             }
             transfer(from, 103, id, endpoint, 3, x.length as u32, x.status)
         }
         Packet::BufferedBulk(x) => {
             let endpoint = x.endpoint;
-            Case::Streams(endpoint, 2, false)
+            Case::StreamsIn(endpoint, 2, id)
         }
     }
 }

@@ -3,7 +3,7 @@
 -- Each is put in for what it equals, and both sides compute.
 -- Assumes nothing.
 use Prim.Native.Nat.{ℕ}
-use mathlib.Core.Path.{_≡_, sym, ap, _∙_}
+use mathlib.Core.Path.{_≡_}
 use mathlib.Core.Bool.{Bool, cond, not, _&&_, _||_}
 use mathlib.Core.List.{List}
 use lib.ListN.{length}
@@ -17,15 +17,12 @@ use Rattle.gate.specs.Offer.{isWaiting, heldWhole, barred}
 use Rattle.gate.specs.Write.{shut}
 use Rattle.header.specs.Header.{holdSize}
 
-module _ (s : Session) (from : Side) {h : Head} (eh : s .head ≡ h) {u : Bool} (eu : u ≡ unfit (record { head = h; rows = s .rows; requests = s .requests })) where
-  same-unfit : u ≡ unfit s
-  same-unfit = eu ∙ ap (λ (x : Head). unfit (record { head = x; rows = s .rows; requests = s .requests })) (sym eh)
-
+module _ (s : Session) (from : Side) {h : Head} (eh : s .head ≡ h) {u : Bool} (eu : u ≡ unfit s) where
   pub barred-by-tests : (hold : List ℕ) {l : Link} {room : ℕ} {whole : Bool} → l ≡ linkTo from h → room ≡ length hold → whole ≡ heldWhole from s hold
       → cond (ltb room holdSize) 41 (cond (u || whole) 43 (cond (h .stopped) 3 (cond (isWaiting l) 2 0))) ≡ barred from s hold
   unfolding barred
-  barred-by-tests hold el er ew = rw (el, er, ew, same-unfit, ← eh)
+  barred-by-tests hold el er ew = rw (el, er, ew, eu, ← eh)
 
   pub shut-by-tests : (hello : Bool) {w : Bool} → w ≡ isWaiting (linkTo from h) → cond u 43 (cond (h .stopped) 3 (cond (w && not hello) 2 0)) ≡ shut from s hello
   unfolding shut
-  shut-by-tests hello ew = rw (ew, same-unfit, ← eh)
+  shut-by-tests hello ew = rw (ew, eu, ← eh)

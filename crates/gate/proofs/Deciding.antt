@@ -36,6 +36,7 @@ lending h types streams used live kinds ids =
       head = h;
       rows = record { types = types; interfaces = []; streams = streams };
       requests = record { used = used; live = live; kinds = kinds; ids = ids; slots = [] };
+      watch = record { expected = []; gaps = []; breaks = [] };
     }
 
 module _ (from : Side) (s : Session) (hold piece : List ℕ) {h : Head} {l : Link} {held : ℕ} (eh : s .head ≡ h) (el : l ≡ linkTo from h) (ed : held ≡ heldIn from h)

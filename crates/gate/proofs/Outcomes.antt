@@ -67,7 +67,8 @@ same-ruled from n s cases.Cancel = refl
 same-ruled from n s cases.Filter = refl
 same-ruled from n s (cases.Asks q typed starts transfer) = refl
 same-ruled from n s (cases.Answers r typed unasked) = refl
-same-ruled from n s (cases.Streams e ty transfer) = refl
+same-ruled from n s (cases.StreamsOut e ty transfer) = refl
+same-ruled from n s (cases.StreamsIn e ty id) = refl
 
 module _ (from : Side) (s : Session) (hold piece : List ℕ) where
   -- a call by which no packet passes
@@ -84,7 +85,7 @@ module _ (from : Side) (s : Session) (hold piece : List ℕ) where
       outcome-is : outcomeBy from s (endedWith n 0 Nowhere 0 (heldIn from (s .head)) (s .head .stopped)) piece hold ≡ offerOf from s hold piece
       outcome-is =
           rw (← e, ne-eqb n 0 z)
-          (ap (λ (h : Head). record { session = record { head = h; rows = s .rows; requests = s .requests }; number = n; taken = 0; location = Nowhere; size = 0; handed = none; hold = hold }) (held-same from (s .head)))
+          (ap (λ (h : Head). record { session = record { head = h; rows = s .rows; requests = s .requests; watch = s .watch }; number = n; taken = 0; location = Nowhere; size = 0; handed = none; hold = hold }) (held-same from (s .head)))
 
   module _ (r : Ready from s hold) where
     -- what the bytes are decides
@@ -131,7 +132,7 @@ module _ (from : Side) (s : Session) (hold piece : List ℕ) where
       ruling-is = ruling-goes ∙ ap (rulingByCut from s (heldBytes from s hold ++ piece)) (c .cut)
 
       -- "10 to 24": a refused hello stops the session
-      refused-session : (b : Bool) → cond b (stoppedNow (heldAs from 0 s)) (heldAs from 0 s) ≡ record { head = heldTo from 0 (s .head .stopped || b) (s .head); rows = s .rows; requests = s .requests }
+      refused-session : (b : Bool) → cond b (stoppedNow (heldAs from 0 s)) (heldAs from 0 s) ≡ record { head = heldTo from 0 (s .head .stopped || b) (s .head); rows = s .rows; requests = s .requests; watch = s .watch }
       refused-session true = rw (or-true (s .head .stopped))
       refused-session false = rw (or-false (s .head .stopped))
 
@@ -140,7 +141,7 @@ module _ (from : Side) (s : Session) (hold piece : List ℕ) where
       unfolding outcomeBy applied
       refused-call {n} t =
           let k : kindOf bytes ≡ kind = framed (linkOf from s) (heldBytes from s hold ++ piece) c .kind in
-          let w : refusedAs (heldAs from 0 s) (kindOf bytes) ≡ record { head = heldTo from 0 (s .head .stopped || eqb kind 0) (s .head); rows = s .rows; requests = s .requests } = rw k (refused-session (eqb kind 0)) in
+          let w : refusedAs (heldAs from 0 s) (kindOf bytes) ≡ record { head = heldTo from 0 (s .head .stopped || eqb kind 0) (s .head); rows = s .rows; requests = s .requests; watch = s .watch } = rw k (refused-session (eqb kind 0)) in
           ends
           (sym
           (taken-is

@@ -34,7 +34,7 @@ module _ (from : Side) (s : Session) (hold piece after : List ℕ) (d : Decided)
   bytes = bytesAt (e .answer .location) (e .answer .size) piece after
 
   -- by its change made
-  pub made : {x : Session} → x ≡ applied (record { head = h; rows = s .rows; requests = s .requests }) from c (rowsIn from s (e .answer .handed) bytes)
+  pub made : {x : Session} → x ≡ applied (record { head = h; rows = s .rows; requests = s .requests; watch = s .watch }) from c (rowsIn from s (e .answer .handed) bytes)
       → outcome (linkOf from s) (record { session = x; answer = e .answer }) piece after ≡ offerOf from s hold piece
   unfolding outcomeBy
   made q =
@@ -45,9 +45,9 @@ module _ (from : Side) (s : Session) (hold piece after : List ℕ) (d : Decided)
   -- with the rows as the code reads them
   pub offer-is : {new : Rows} {body : List ℕ} {x : Session} → body ≡ bodyIn (e .answer .handed) bytes
       → ((from : Side) (caps id : ℕ) → new ≡ rowsHanded from caps id (e .answer .handed) body)
-      → x ≡ applied (record { head = h; rows = s .rows; requests = s .requests }) from c new
+      → x ≡ applied (record { head = h; rows = s .rows; requests = s .requests; watch = s .watch }) from c new
       → outcome (linkOf from s) (record { session = x; answer = e .answer }) piece after ≡ offerOf from s hold piece
   offer-is eb en ex =
       let a : Handed = e .answer .handed in
       let l = sharedSet (linkOf from s) in
-      made (ex ∙ ap (applied (record { head = h; rows = s .rows; requests = s .requests }) from c) (en from l (idIn a) ∙ ap (rowsHanded from l (idIn a) a) eb))
+      made (ex ∙ ap (applied (record { head = h; rows = s .rows; requests = s .requests; watch = s .watch }) from c) (en from l (idIn a) ∙ ap (rowsHanded from l (idIn a) a) eb))

@@ -56,7 +56,7 @@ refusedWith a n = record { number = n; taken = a .taken; location = a .location;
 abbrev pub concludedBy : Decided → Ruling → Decided
 concludedBy d (Denied n) = record { answer = refusedWith (d .answer) n; held = d .held; stopped = d .stopped; ruling = Granted NoChange }
 concludedBy d (Granted c) = record { answer = d .answer; held = d .held; stopped = d .stopped; ruling = Granted c }
-concludedBy d (Pending i x typed opens scope) = record { answer = d .answer; held = d .held; stopped = d .stopped; ruling = Granted NoChange }
+concludedBy d (Pending i x typed stream scope) = record { answer = d .answer; held = d .held; stopped = d .stopped; ruling = Granted NoChange }
 
 unfoldable pub concluded : Decided → Slot → Decided
 concluded d slot = concludedBy d (settledIn (d .ruling) slot)
@@ -65,7 +65,7 @@ concluded d slot = concludedBy d (settledIn (d .ruling) slot)
 abbrev pub changeIn : Ruling → Change
 changeIn (Denied n) = NoChange
 changeIn (Granted c) = c
-changeIn (Pending i x typed opens scope) = NoChange
+changeIn (Pending i x typed stream scope) = NoChange
 
 -- ---- the call that a decision comes to
 
@@ -83,7 +83,7 @@ abbrev pub rowsIn : Side → Session → Handed → List ℕ → Rows
 rowsIn from s handed bytes = rowsHanded from (sharedSet (linkOf from s)) (idIn handed) handed (bodyIn handed bytes)
 
 abbrev pub sessionAfter : Side → Session → Decided → Rows → Session
-sessionAfter from s d new = applied (record { head = heldTo from (d .held) (d .stopped) (s .head); rows = s .rows; requests = s .requests }) from (changeIn (d .ruling)) new
+sessionAfter from s d new = applied (record { head = heldTo from (d .held) (d .stopped) (s .head); rows = s .rows; requests = s .requests; watch = s .watch }) from (changeIn (d .ruling)) new
 
 unfoldable pub outcomeBy : Side → Session → Decided → List ℕ → List ℕ → Outcome
 outcomeBy from s d piece hold =
@@ -95,7 +95,7 @@ outcomeBy from s d piece hold =
 abbrev pub unrefused : Ruling → Ruling
 unrefused (Denied n) = Granted NoChange
 unrefused (Granted c) = Granted c
-unrefused (Pending i x typed opens scope) = Pending i x typed opens scope
+unrefused (Pending i x typed stream scope) = Pending i x typed stream scope
 
 -- a whole packet that the wire checks let through is ruled on by its case
 abbrev pub packetRuling : Side → Session → List ℕ → Ruling
@@ -118,7 +118,7 @@ rulingAt from s hold piece =
 abbrev pub waits : Ruling → Bool
 waits (Denied n) = false
 waits (Granted c) = false
-waits (Pending i x typed opens scope) = true
+waits (Pending i x typed stream scope) = true
 
 -- ---- what a decision is
 

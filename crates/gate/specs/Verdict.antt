@@ -29,13 +29,13 @@ heldOf from s = heldIn from (s .head)
 
 -- the session with so many bytes held in a direction
 abbrev pub heldAs : Side → ℕ → Session → Session
-heldAs from n s = record { head = heldTo from n (s .head .stopped) (s .head); rows = s .rows; requests = s .requests }
+heldAs from n s = record { head = heldTo from n (s .head .stopped) (s .head); rows = s .rows; requests = s .requests; watch = s .watch }
 
 abbrev pub stoppedIn : Head → Head
 stoppedIn h = record { guest = h .guest; host = h .host; stopped = true; held = h .held; present = h .present; introduction = h .introduction; owed = h .owed }
 
 abbrev pub stoppedNow : Session → Session
-stoppedNow s = record { head = stoppedIn (s .head); rows = s .rows; requests = s .requests }
+stoppedNow s = record { head = stoppedIn (s .head); rows = s .rows; requests = s .requests; watch = s .watch }
 
 -- ---- the verdict
 
@@ -71,4 +71,4 @@ handedAs l bytes (OnePacket h p) = told l bytes (Read h p) .handed
 abbrev pub ruledAs : Session → Side → Option PacketTold → Rows → Ruling → VerdictTold
 ruledAs s from out new (Denied n) = record { session = s; number = n; handed = none }
 ruledAs s from out new (Granted c) = record { session = applied s from c new; number = 0; handed = out }
-ruledAs s from out new (Pending i x typed opens scope) = record { session = s; number = 0; handed = out }
+ruledAs s from out new (Pending i x typed stream scope) = record { session = s; number = 0; handed = out }

@@ -57,11 +57,14 @@ use requests::slot_for;
 use session::Session;
 use session::apply;
 use session::edit_of;
+use session::has_wide_ids;
 use session::held_in;
 use session::hold_to;
 use session::is_unfit;
 use session::link_to;
 use session::store;
+use watch::Watch;
+use watch::note;
 
 // What is handed out: nothing, or the packet that passed as its own reading.
 pub enum Handed {
@@ -373,6 +376,10 @@ pub fn offer(s: Session, from: Side, hold: &mut [u8], piece: &[u8]) -> Offered
     let mut kinds = t.kinds;
     let mut ids = t.ids;
     let mut slots = t.slots;
+    let w = s.watch;
+    let mut expected = w.expected;
+    let mut gaps = w.gaps;
+    let mut breaks = w.breaks;
     let d = decide(
         h,
         &types,
@@ -385,8 +392,8 @@ pub fn offer(s: Session, from: Side, hold: &mut [u8], piece: &[u8]) -> Offered
         hold,
         piece,
     );
-    let w = wanted(d);
-    let slot = if w < PLACES { slots[w] } else { free_slot() };
+    let at = wanted(d);
+    let slot = if at < PLACES { slots[at] } else { free_slot() };
     let e = settle(d, slot);
     let answer = e.answer;
     let head = hold_to(h, from, e.held, e.stopped);
@@ -408,6 +415,11 @@ pub fn offer(s: Session, from: Side, hold: &mut [u8], piece: &[u8]) -> Offered
                 ids,
                 slots,
             },
+            watch: Watch {
+                expected,
+                gaps,
+                breaks,
+            },
         };
         let new = rows_handed(handed, body_of(answer, piece, hold));
         let session = apply(before, from, c, new);
@@ -419,6 +431,15 @@ pub fn offer(s: Session, from: Side, hold: &mut [u8], piece: &[u8]) -> Offered
         let q = edit.request;
         slots[place] = slot_for(q);
     }
+    note(
+        edit.watched,
+        edit.seen,
+        has_wide_ids(head),
+        edit.id,
+        &mut expected,
+        &mut gaps,
+        &mut breaks,
+    );
     let session = Session {
         head,
         rows: Rows {
@@ -432,6 +453,11 @@ pub fn offer(s: Session, from: Side, hold: &mut [u8], piece: &[u8]) -> Offered
             kinds,
             ids,
             slots,
+        },
+        watch: Watch {
+            expected,
+            gaps,
+            breaks,
         },
     };
     Offered { session, answer }

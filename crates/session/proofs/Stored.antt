@@ -1,4 +1,4 @@
--- An edit stored in the columns of a session, and the slot of its place with it, is the whole change (`stored-is`).
+-- An edit stored in the columns of a session, with the slot of its place and what is noted in the watch, is the whole change (`stored-is`).
 -- A store into a column is the definition's `putAt` (`set-put`), since a column has an element for each row or place. An edit that frees its place has
 -- no request (`free-edit`), so that what is stored there is zeros.
 -- Assumes nothing.
@@ -20,10 +20,14 @@ use Rattle.requests.specs.declared.Slot.{Slot}
 use Rattle.requests.specs.declared.Requests.{Requests}
 use Rattle.requests.specs.Requests.{places, noRequest, freeSlot, slotOf, usedOf, trimmed, withRequest, without, freed}
 use Rattle.requests.proofs.Loops.{taken-past}
+use Rattle.watch.specs.declared.Watch.{Watch}
+use Rattle.watch.specs.Columns.{noted, Notes}
+use Rattle.watch.proofs.Noted.{Long, notes-are}
 use Rattle.checks.specs.declared.Change.{Change}
-use Rattle.checks.specs.declared.Change.the-variants.{NoChange, Hello, Connect, Interfaces, Endpoints, Disconnect, Reset, Acknowledge, Take, TakeAndOpen, Release}
+use Rattle.checks.specs.declared.Change.the-variants.{NoChange, Seen, Hello, Connect, Interfaces, Endpoints, Disconnect, Reset, Acknowledge, Take, TakeAndOpen, Release}
 use Rattle.session.specs.declared.Edit.{Edit}
 use Rattle.session.specs.declared.Session.{Session}
+use Rattle.session.specs.Session.{isWide}
 use Rattle.session.specs.Step.{applied}
 use Rattle.session.specs.Edit.{editOf, Edits, placedIn, usedBy, Stores}
 
@@ -114,6 +118,7 @@ free-edit d (TakeAndOpen i q typed) e = absurd (true≢false e)
 free-edit d (Release i typed opens NoRow) e = refl
 free-edit d (Release i typed opens EveryRow) e = refl
 free-edit d (Release i typed opens (OfInterface n)) e = refl
+free-edit d (Seen x id) e = refl
 
 -- ---- the session
 
@@ -135,16 +140,18 @@ module _ (s : Session) (long : Sized (s .rows) (s .requests)) (e : Edit) {u : �
     no-request : e .live ≡ false → e .request ≡ noRequest
     no-request f = ap (λ (x : Edit). x .request) (edits .exactly) ∙ free-edit (s .rows) c (ap (λ (x : Edit). x .live) (sym (edits .exactly)) ∙ f)
 
-    pub stored-is : (from : Side) (new : Rows) → record {
+    pub stored-is : {watch : Watch} → Long (s .watch) → Notes (s .watch) (e .watched) (noted (e .seen) (isWide (s .head)) (e .id)) watch → (from : Side) (new : Rows) → record {
       head = s .head;
       rows = withStreams (s .rows) streams;
       requests = record { used = u; live = live; kinds = kinds; ids = ids; slots = slots };
+      watch = watch;
     } ≡ applied s from c new
     unfolding applied
-    stored-is from new =
+    stored-is long-watch notes from new =
         let head = sym (edits .head narrow (s .head) from) in
         let rows = row-stored (s .rows) (long .streams) (e .row) (e .opens) (ltb (e .row) 32) (p .streams-are) ∙ sym (edits .rows narrow new) in
         let requests =
         place-stored (s .requests) long (e .place) (e .request) (ltb (e .place) places) (e .live) refl no-request (p .used-is) (p .live-are) (p .kinds-are) (p .ids-are) es
         ∙ sym (edits .requests narrow (s .requests)) in
-        λ z. record { head = head z; rows = rows z; requests = requests z }
+        let watch = notes-are (s .watch) _ (e .watched) (noted (e .seen) (isWide (s .head)) (e .id)) long-watch notes ∙ sym (edits .watch narrow (s .watch) (isWide (s .head))) in
+        λ z. record { head = head z; rows = rows z; requests = requests z; watch = watch z }

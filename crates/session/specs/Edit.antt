@@ -1,4 +1,4 @@
--- A change of at most one row's stream and one place, for callers that keep the parts of a session in locals and store it there.
+-- A change of at most one row's stream, one place and one row's watch, for callers that keep the parts of a session in locals and store it there.
 -- Assumes nothing: these are definitions.
 use Prim.Native.Nat.{ℕ, suc}
 use mathlib.Core.Bool.{Bool, true, false, cond, _||_}
@@ -18,10 +18,15 @@ use Rattle.requests.specs.declared.Requests.{Requests}
 use Rattle.requests.specs.Requests.{places, noRequest, withRequest, trimmed, freed}
 use Rattle.events.specs.declared.Typed.{Typed}
 use Rattle.events.specs.declared.Typed.the-variants.{Untyped, OfEndpoint, OfMask}
+use Rattle.watch.specs.declared.Watch.{Watch}
+use Rattle.watch.specs.Watch.{inRows, watchedRow, changedAt}
+use Rattle.watch.specs.Columns.{noted}
+use Rattle.checks.specs.declared.StreamMove.{StreamMove}
+use Rattle.checks.specs.Change.{isOpening, isStall}
 use Rattle.checks.specs.declared.Change.{Change}
-use Rattle.checks.specs.declared.Change.the-variants.{NoChange, Hello, Connect, Interfaces, Endpoints, Disconnect, Reset, Acknowledge, Take, TakeAndOpen, Release}
+use Rattle.checks.specs.declared.Change.the-variants.{NoChange, Seen, Hello, Connect, Interfaces, Endpoints, Disconnect, Reset, Acknowledge, Take, TakeAndOpen, Release}
 use Rattle.session.specs.declared.Edit.{Edit}
-use Rattle.session.specs.Step.{streamBy, headAfter, rowsAfter, requestsAfter}
+use Rattle.session.specs.Step.{streamBy, headAfter, rowsAfter, requestsAfter, watchAfter}
 
 -- the row whose stream a packet moves, 32 for none
 abbrev pub rowMoved : Rows → Typed → ℕ
@@ -38,17 +43,25 @@ pub record Moves (d : Rows) (typed : Typed) (row : ℕ) : Type 0 where
   pub exactly : row ≡ rowMoved d typed
   pub stored : (b : Bool) → streamBy d typed b ≡ streamAt d row b
 
--- no row, no place: what is left to `applied`
-abbrev pub wideEdit : Edit
-wideEdit = record { row = 32; opens = false; place = places; live = false; request = noRequest; wide = true }
+-- the IN row whose ids begin anew, 16 for none
+abbrev pub begunRow : Typed → ℕ
+begunRow Untyped = inRows
+begunRow (OfEndpoint e ty) = watchedRow e
+begunRow (OfMask m ty) = inRows
 
-abbrev pub replyEdit : Rows → ℕ → Typed → Bool → Scope → Edit
-replyEdit d i typed opens NoRow = record { row = rowMoved d typed; opens = opens; place = i; live = false; request = noRequest; wide = false }
-replyEdit d i typed opens EveryRow = wideEdit
-replyEdit d i typed opens (OfInterface n) = wideEdit
+-- no row, no place, no watch: what is left to `applied`
+abbrev pub wideEdit : Edit
+wideEdit = record { row = 32; opens = false; place = places; live = false; request = noRequest; wide = true; watched = inRows; seen = false; id = 0 }
+
+abbrev pub replyEdit : Rows → ℕ → Typed → StreamMove → Scope → Edit
+replyEdit d i typed stream NoRow =
+    record { row = rowMoved d typed; opens = isOpening stream; place = i; live = false; request = noRequest; wide = false; watched = cond (isStall stream) (begunRow typed) inRows; seen = false; id = 0 }
+replyEdit d i typed stream EveryRow = wideEdit
+replyEdit d i typed stream (OfInterface n) = wideEdit
 
 abbrev pub editOf : Rows → Change → Edit
-editOf d NoChange = record { row = 32; opens = false; place = places; live = false; request = noRequest; wide = false }
+editOf d NoChange = record { row = 32; opens = false; place = places; live = false; request = noRequest; wide = false; watched = inRows; seen = false; id = 0 }
+editOf d (Seen e id) = record { row = 32; opens = false; place = places; live = false; request = noRequest; wide = false; watched = watchedRow e; seen = true; id = id }
 editOf d (Hello word) = wideEdit
 editOf d Connect = wideEdit
 editOf d Interfaces = wideEdit
@@ -56,16 +69,20 @@ editOf d Endpoints = wideEdit
 editOf d Disconnect = wideEdit
 editOf d Reset = wideEdit
 editOf d Acknowledge = wideEdit
-editOf d (Take i q) = record { row = 32; opens = false; place = i; live = true; request = q; wide = false }
-editOf d (TakeAndOpen i q typed) = record { row = rowMoved d typed; opens = true; place = i; live = true; request = q; wide = false }
-editOf d (Release i typed opens scope) = replyEdit d i typed opens scope
+editOf d (Take i q) = record { row = 32; opens = false; place = i; live = true; request = q; wide = false; watched = inRows; seen = false; id = 0 }
+editOf d (TakeAndOpen i q typed) =
+    record { row = rowMoved d typed; opens = true; place = i; live = true; request = q; wide = false; watched = begunRow typed; seen = false; id = 0 }
+editOf d (Release i typed stream scope) = replyEdit d i typed stream scope
 
--- the rows and the requests with the edit stored
+-- the rows, the requests and the watch with the edit stored
 abbrev pub rowsEdited : Rows → Edit → Rows
 rowsEdited d e = streamAt d (e .row) (e .opens)
 
 abbrev pub requestsEdited : Requests → Edit → Requests
 requestsEdited t e = cond (e .live) (withRequest t (e .place) (e .request)) (cond (ltb (e .place) places) (freed t (e .place)) t)
+
+abbrev pub watchEdited : Watch → Bool → Edit → Watch
+watchEdited w wide e = changedAt (noted (e .seen) wide (e .id)) w (e .watched)
 
 -- an edit that is not wide is the whole change
 pub record Edits (d : Rows) (c : Change) (e : Edit) : Type 0 where
@@ -73,6 +90,7 @@ pub record Edits (d : Rows) (c : Change) (e : Edit) : Type 0 where
   pub head : e .wide ≡ false → (h : Head) (from : Side) → headAfter h from c ≡ h
   pub rows : e .wide ≡ false → (new : Rows) → rowsAfter d c new ≡ rowsEdited d e
   pub requests : e .wide ≡ false → (t : Requests) → requestsAfter t d c ≡ requestsEdited t e
+  pub watch : e .wide ≡ false → (w : Watch) (wide : Bool) → watchAfter w wide c ≡ watchEdited w wide e
 
 -- ---- an edit stored in columns that are lent
 

@@ -14,11 +14,12 @@ use Rattle.device.specs.declared.Head.{Head}
 use Rattle.device.specs.declared.Held.{Held}
 use Rattle.device.specs.Device.{startHead, startRows, controlRows}
 use Rattle.requests.specs.Requests.{freshRequests, idsDiffer}
+use Rattle.watch.specs.Watch.{startWatch}
 use Rattle.session.specs.declared.Session.{Session}
 
 -- "Start: no device, no introduction, .. and a table of 96 places for requests, all free"
 unfoldable pub freshSession : Session
-freshSession = record { head = startHead; rows = startRows; requests = freshRequests }
+freshSession = record { head = startHead; rows = startRows; requests = freshRequests; watch = startWatch }
 
 -- one direction of it, as the wire checks see it
 abbrev pub linkTo : Side → Head → Link
@@ -30,6 +31,10 @@ linkOf from s = linkTo from (s .head)
 -- a bit is in the shared set, which is the same for both directions
 abbrev pub sharedIn : Head → ℕ → Bool
 sharedIn h j = hasBit (sharedSet (linkTo Guest h)) j
+
+-- "id is u64 once both hellos have passed and bit 5 is shared"
+abbrev pub isWide : Head → Bool
+isWide h = sharedIn h 5
 
 -- ---- the held bytes of a direction: "Bytes of an unfinished packet are kept at its front"
 

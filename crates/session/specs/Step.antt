@@ -15,15 +15,17 @@ use Rattle.device.specs.declared.Scope.the-variants.{EveryRow}
 use Rattle.device.specs.Device.{startRows, replaced, streamTo, closed}
 use Rattle.requests.specs.declared.Requests.{Requests}
 use Rattle.requests.specs.Requests.{places, withRequest, released, cleared}
+use Rattle.watch.specs.declared.Watch.{Watch}
+use Rattle.watch.specs.Watch.{seenOn, begunOn, forgotten}
 use Rattle.events.specs.declared.Typed.{Typed}
 use Rattle.events.specs.declared.Typed.the-variants.{Untyped, OfEndpoint, OfMask}
 use Rattle.events.specs.Event.{Event}
 use Rattle.checks.specs.declared.Change.{Change}
-use Rattle.checks.specs.declared.Change.the-variants.{NoChange, Hello as Greet, Connect, Interfaces, Endpoints, Disconnect, Reset, Acknowledge, Take, TakeAndOpen, Release}
+use Rattle.checks.specs.declared.Change.the-variants.{NoChange, Seen, Hello as Greet, Connect, Interfaces, Endpoints, Disconnect, Reset, Acknowledge, Take, TakeAndOpen, Release}
 use Rattle.checks.specs.Checks.{Match, matchOf, numberFor}
-use Rattle.checks.specs.Change.{changeFor}
+use Rattle.checks.specs.Change.{isOpening, isStall, changeFor}
 use Rattle.session.specs.declared.Session.{Session}
-use Rattle.session.specs.Session.{sharedIn}
+use Rattle.session.specs.Session.{sharedIn, isWide}
 
 -- ---- the head
 
@@ -50,6 +52,7 @@ introduced i h = deviceTo h (h .present) (cond (h .present) (h .introduction) i)
 
 abbrev pub headAfter : Head → Side → Change → Head
 headAfter h from NoChange = h
+headAfter h from (Seen e id) = h
 headAfter h from (Greet word) = helloTo h from word
 -- "1 needs two and makes the device present"
 headAfter h from Connect = deviceTo h true (h .introduction) (h .owed)
@@ -63,7 +66,7 @@ headAfter h from Reset = h
 headAfter h from Acknowledge = deviceTo h (h .present) (h .introduction) false
 headAfter h from (Take i q) = h
 headAfter h from (TakeAndOpen i q typed) = h
-headAfter h from (Release i typed opens scope) = h
+headAfter h from (Release i typed stream scope) = h
 
 -- ---- the rows
 
@@ -76,6 +79,7 @@ streamBy rows (OfMask m ty) b = rows
 -- new: the rows that the packet announces
 abbrev pub rowsAfter : Rows → Change → Rows → Rows
 rowsAfter rows NoChange new = rows
+rowsAfter rows (Seen e id) new = rows
 rowsAfter rows (Greet word) new = rows
 rowsAfter rows Connect new = rows
 rowsAfter rows Interfaces new = rows
@@ -88,12 +92,13 @@ rowsAfter rows Acknowledge new = rows
 rowsAfter rows (Take i q) new = rows
 -- "a passed start opens; a status opens .. and otherwise closes"
 rowsAfter rows (TakeAndOpen i q typed) new = streamBy rows typed true
-rowsAfter rows (Release i typed opens scope) new = closed (streamBy rows typed opens) scope
+rowsAfter rows (Release i typed stream scope) new = closed (streamBy rows typed (isOpening stream)) scope
 
 -- ---- the requests
 
 abbrev pub requestsAfter : Requests → Rows → Change → Requests
 requestsAfter t rows NoChange = t
+requestsAfter t rows (Seen e id) = t
 requestsAfter t rows (Greet word) = t
 requestsAfter t rows Connect = t
 requestsAfter t rows Interfaces = t
@@ -105,7 +110,33 @@ requestsAfter t rows Acknowledge = t
 requestsAfter t rows (Take i q) = withRequest t i q
 requestsAfter t rows (TakeAndOpen i q typed) = withRequest t i q
 -- "A passed reply frees the place", and the data requests that end with it
-requestsAfter t rows (Release i typed opens scope) = cond (ltb i places) (released t i rows scope) t
+requestsAfter t rows (Release i typed stream scope) = cond (ltb i places) (released t i rows scope) t
+
+-- ---- the watch
+
+-- the ids of an endpoint begin anew
+abbrev pub begunBy : Watch → Typed → Watch
+begunBy w Untyped = w
+begunBy w (OfEndpoint e ty) = begunOn w e
+begunBy w (OfMask m ty) = w
+
+-- wide: ids have 64 bits
+abbrev pub watchAfter : Watch → Bool → Change → Watch
+watchAfter w wide NoChange = w
+-- "watch the ids of passed host packets of kinds 102, 103 IN and 104"
+watchAfter w wide (Seen e id) = seenOn wide id w e
+watchAfter w wide (Greet word) = w
+watchAfter w wide Connect = w
+watchAfter w wide Interfaces = w
+watchAfter w wide Endpoints = w
+-- "2 .. returns to the start", but "counts and gaps .. outlast a disconnect"
+watchAfter w wide Disconnect = forgotten w
+watchAfter w wide Reset = w
+watchAfter w wide Acknowledge = w
+watchAfter w wide (Take i q) = w
+-- "after each passed start, or 14, 17 or 27 with status 4, on the row, 0 is expected"
+watchAfter w wide (TakeAndOpen i q typed) = begunBy w typed
+watchAfter w wide (Release i typed stream scope) = cond (isStall stream) (begunBy w typed) w
 
 -- ---- the session after a packet that passed, and the judge's answer
 
@@ -115,6 +146,7 @@ applied s from c new =
       head = headAfter (s .head) from c;
       rows = rowsAfter (s .rows) c new;
       requests = requestsAfter (s .requests) (s .rows) c;
+      watch = watchAfter (s .watch) (isWide (s .head)) c;
     }
 
 unfoldable pub nextFor : Session → Event → Match → Session

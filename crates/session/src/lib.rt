@@ -3,12 +3,15 @@ ghost use mathlib.Core.Path.{_≡_};
 ghost use mathlib.Core.Bool.{cond};
 ghost use lib.Dec.{ltb};
 ghost use Rattle.device.specs.declared.Rows.{Rows};
-ghost use Rattle.requests.specs.declared.Requests.{Requests};
 ghost use Rattle.requests.specs.Requests.{places, noRequest, released};
-ghost use Rattle.session.specs.Edit.{Moves, wideEdit, Edits, Stores};
-ghost use Rattle.session.specs.Session.{freshSession, linkTo, sharedIn, heldIn, countAs, heldTo, heldBad, unfit};
-ghost use Rattle.session.specs.Step.{keptHello, hellosTo, helloTo, deviceTo, introduced, headAfter, streamBy, rowsAfter, requestsAfter, applied};
+ghost use Rattle.watch.specs.Watch.{breaksOn, gapOn};
+ghost use Rattle.checks.specs.Change.{isOpening, isStall};
+ghost use Rattle.session.specs.declared.Session.{Session};
+ghost use Rattle.session.specs.Edit.{Moves, begunRow, wideEdit, Edits, Stores};
+ghost use Rattle.session.specs.Session.{freshSession, linkTo, sharedIn, isWide, heldIn, countAs, heldTo, heldBad, unfit};
+ghost use Rattle.session.specs.Step.{keptHello, hellosTo, helloTo, deviceTo, introduced, headAfter, streamBy, rowsAfter, requestsAfter, begunBy, watchAfter, applied};
 use checks::Change;
+use checks::StreamMove;
 use device::Head;
 use device::Held;
 use device::Introduction;
@@ -21,6 +24,7 @@ use device::set_stream;
 use device::start_head;
 use device::start_rows;
 use device::stream_row;
+use endpoint::Row;
 use events::Typed;
 use header::HOLD_SIZE;
 use header::HelloState;
@@ -38,18 +42,29 @@ use requests::fresh;
 use requests::ids_differ;
 use requests::release;
 use requests::take;
+use watch::IN_ROWS;
+use watch::Watch;
+use watch::begin;
+use watch::breaks_at;
+use watch::forget;
+use watch::gap_at;
+use watch::see;
+use watch::start_watch;
+use watch::watched_row;
 
 // The most bytes that are held: the longest packet but for its last byte.
 const MAX_HELD: usize = HOLD_SIZE - 1;
 
-// The head is small and changes often; the rows of the device and the table of requests are columns, which are lent.
+// The head is small and changes often; the rows of the device and the table of requests are columns, which are lent. No check reads the
+// watch.
 pub struct Session {
     pub head: Head,
     pub rows: Rows,
     pub requests: Requests,
+    pub watch: Watch,
 }
 
-// What a change does in one row and one place, where that is all of it; a wide change does more and is left to `apply`.
+// What a change does in one row, one place and one watch, where that is all of it; a wide change does more and is left to `apply`.
 pub struct Edit {
     // the row whose stream is set, 32 for none, and to what
     pub row: usize,
@@ -59,6 +74,10 @@ pub struct Edit {
     pub live: bool,
     pub request: Request,
     pub wide: bool,
+    // the IN row whose watch moves, 16 for none: a packet with this id was seen there, or its ids begin anew
+    pub watched: usize,
+    pub seen: bool,
+    pub id: u64,
 }
 
 // A session at its start: no hello has passed.
@@ -68,10 +87,12 @@ pub fn fresh_session() -> Session
     let head = start_head();
     let rows = start_rows();
     let requests = fresh();
+    let watch = start_watch();
     Session {
         head,
         rows,
         requests,
+        watch,
     }
 }
 
@@ -92,6 +113,29 @@ fn has_shared_bit(h: Head, bit: u32) -> bool
     ensures { λ r. ⌜ r ≡ sharedIn h bit ⌝ }
 {
     has_bit(shared_set(link_to(h, Side::Guest)), bit)
+}
+
+// Ids have 64 bits.
+pub fn has_wide_ids(h: Head) -> bool
+    ensures { λ r. ⌜ r ≡ isWide h ⌝ }
+{
+    has_shared_bit(h, 5)
+}
+
+// How many packets of a row's streams had another id than the expected one, as far as 65,535; 0 for a row that is not watched.
+pub fn breaks_on(s: Session, r: Row) -> u16
+    ensures { λ n. ⌜ n ≡ breaksOn (s .watch) r ⌝ }
+{
+    let w = s.watch;
+    breaks_at(&w.breaks, r)
+}
+
+// How far ahead of the expected id the last packet of a row lay that had another; 0 where none had, and for a row that is not watched.
+pub fn gap_on(s: Session, r: Row) -> u64
+    ensures { λ n. ⌜ n ≡ gapOn (s .watch) r ⌝ }
+{
+    let w = s.watch;
+    gap_at(&w.gaps, r)
 }
 
 // The bytes that a direction holds.
@@ -145,7 +189,7 @@ pub fn is_unfit<'a>(
     live: &'a [bool; PLACES],
     ids: &'a [u64; PLACES],
 ) -> bool
-    ensures { λ r. ⌜ ((d : Rows) (t : Requests) → d .types ≡ now (types .entry) → t .used ≡ used → t .live ≡ now (live .entry) → t .ids ≡ now (ids .entry) → r ≡ unfit (record { head = h; rows = d; requests = t })) ⌝ }
+    ensures { λ r. ⌜ ((s : Session) → s .head ≡ h → s .rows .types ≡ now (types .entry) → s .requests .used ≡ used → s .requests .live ≡ now (live .entry) → s .requests .ids ≡ now (ids .entry) → r ≡ unfit s) ⌝ }
 {
     let guest = h.guest;
     let host = h.host;
@@ -241,6 +285,27 @@ fn head_after(h: Head, from: Side, c: Change) -> Head
         Change::Take(_, _) => h,
         Change::TakeAndOpen(_, _, _) => h,
         Change::Release(_, _, _, _) => h,
+        Change::Seen(_, _) => h,
+    }
+}
+
+fn is_opening(m: StreamMove) -> bool
+    ensures { λ r. ⌜ r ≡ isOpening m ⌝ }
+{
+    match m {
+        StreamMove::Opens => true,
+        StreamMove::Closes => false,
+        StreamMove::Stalls => false,
+    }
+}
+
+fn is_stall(m: StreamMove) -> bool
+    ensures { λ r. ⌜ r ≡ isStall m ⌝ }
+{
+    match m {
+        StreamMove::Opens => false,
+        StreamMove::Closes => false,
+        StreamMove::Stalls => true,
     }
 }
 
@@ -269,7 +334,10 @@ fn rows_after(rows: Rows, c: Change, new: Rows) -> Rows
         Change::Acknowledge => rows,
         Change::Take(_, _) => rows,
         Change::TakeAndOpen(_, _, typed) => stream_by(rows, typed, true),
-        Change::Release(_, typed, opens, scope) => close(stream_by(rows, typed, opens), scope),
+        Change::Release(_, typed, stream, scope) => {
+            close(stream_by(rows, typed, is_opening(stream)), scope)
+        }
+        Change::Seen(_, _) => rows,
     }
 }
 
@@ -303,6 +371,44 @@ fn requests_after(t: Requests, rows: Rows, c: Change) -> Requests
         Change::Take(i, q) => take(t, i, q),
         Change::TakeAndOpen(i, q, _) => take(t, i, q),
         Change::Release(i, _, _, scope) => release_at(t, i, rows, scope),
+        Change::Seen(_, _) => t,
+    }
+}
+
+// The ids of an endpoint begin anew.
+fn begin_by(w: Watch, typed: Typed) -> Watch
+    ensures { λ r. ⌜ r ≡ begunBy w typed ⌝ }
+{
+    match typed {
+        Typed::Untyped => w,
+        Typed::OfEndpoint(e, _) => begin(w, e),
+        Typed::OfMask(_, _) => w,
+    }
+}
+
+// The watch after a packet that passed, with ids of 64 bits or of 32.
+fn watch_after(w: Watch, wide: bool, c: Change) -> Watch
+    ensures { λ r. ⌜ r ≡ watchAfter w wide c ⌝ }
+{
+    match c {
+        Change::NoChange => w,
+        Change::Hello(_) => w,
+        Change::Connect => w,
+        Change::Interfaces => w,
+        Change::Endpoints => w,
+        Change::Disconnect => forget(w),
+        Change::Reset => w,
+        Change::Acknowledge => w,
+        Change::Take(_, _) => w,
+        Change::TakeAndOpen(_, _, typed) => begin_by(w, typed),
+        Change::Release(_, typed, stream, _) => {
+            if is_stall(stream) {
+                begin_by(w, typed)
+            } else {
+                w
+            }
+        }
+        Change::Seen(e, id) => see(w, e, wide, id),
     }
 }
 
@@ -316,10 +422,13 @@ pub fn apply(s: Session, from: Side, c: Change, new: Rows) -> Session
     let head = head_after(h, from, c);
     let rows = rows_after(d, c, new);
     let requests = requests_after(t, d, c);
+    let w = s.watch;
+    let watch = watch_after(w, has_wide_ids(h), c);
     Session {
         head,
         rows,
         requests,
+        watch,
     }
 }
 
@@ -334,6 +443,17 @@ fn row_moved(types: &[u8; 32], typed: Typed) -> usize
     }
 }
 
+// The IN row whose ids begin anew, 16 for none.
+fn begun_row(typed: Typed) -> usize
+    ensures { λ r. ⌜ r ≡ begunRow typed ⌝ }
+{
+    match typed {
+        Typed::Untyped => IN_ROWS,
+        Typed::OfEndpoint(e, _) => watched_row(e),
+        Typed::OfMask(_, _) => IN_ROWS,
+    }
+}
+
 fn edit_with(
     row: usize,
     opens: bool,
@@ -341,8 +461,11 @@ fn edit_with(
     live: bool,
     request: Request,
     wide: bool,
+    watched: usize,
+    seen: bool,
+    id: u64,
 ) -> Edit
-    ensures { λ r. ⌜ r ≡ record { row = row; opens = opens; place = place; live = live; request = request; wide = wide } ⌝ }
+    ensures { λ r. ⌜ r ≡ record { row = row; opens = opens; place = place; live = live; request = request; wide = wide; watched = watched; seen = seen; id = id } ⌝ }
 {
     Edit {
         row,
@@ -351,6 +474,9 @@ fn edit_with(
         live,
         request,
         wide,
+        watched,
+        seen,
+        id,
     }
 }
 
@@ -369,7 +495,17 @@ fn no_request() -> Request
 fn wide_edit() -> Edit
     ensures { λ r. ⌜ r ≡ wideEdit ⌝ }
 {
-    edit_with(32, false, PLACES, false, no_request(), true)
+    edit_with(
+        32,
+        false,
+        PLACES,
+        false,
+        no_request(),
+        true,
+        IN_ROWS,
+        false,
+        0,
+    )
 }
 
 // A change as an edit.
@@ -378,7 +514,7 @@ pub fn edit_of(types: &[u8; 32], c: Change) -> Edit
 {
     let none = no_request();
     match c {
-        Change::NoChange => edit_with(32, false, PLACES, false, none, false),
+        Change::NoChange => edit_with(32, false, PLACES, false, none, false, IN_ROWS, false, 0),
         Change::Hello(_) => wide_edit(),
         Change::Connect => wide_edit(),
         Change::Interfaces => wide_edit(),
@@ -386,7 +522,7 @@ pub fn edit_of(types: &[u8; 32], c: Change) -> Edit
         Change::Disconnect => wide_edit(),
         Change::Reset => wide_edit(),
         Change::Acknowledge => wide_edit(),
-        Change::Take(i, q) => edit_with(32, false, i, true, q, false),
+        Change::Take(i, q) => edit_with(32, false, i, true, q, false, IN_ROWS, false, 0),
         Change::TakeAndOpen(i, q, typed) => edit_with(
             row_moved(types, typed),
             true,
@@ -394,18 +530,49 @@ pub fn edit_of(types: &[u8; 32], c: Change) -> Edit
             true,
             q,
             false,
+            begun_row(typed),
+            false,
+            0,
         ),
-        Change::Release(i, typed, opens, scope) => {
+        Change::Release(i, typed, stream, scope) => {
             match scope {
-                Scope::NoRow => edit_with(row_moved(types, typed), opens, i, false, none, false),
+                Scope::NoRow => {
+                    let row = row_moved(types, typed);
+                    if is_stall(stream) {
+                        return edit_with(
+                            row,
+                            false,
+                            i,
+                            false,
+                            none,
+                            false,
+                            begun_row(typed),
+                            false,
+                            0,
+                        );
+                    }
+                    let opens = is_opening(stream);
+                    edit_with(row, opens, i, false, none, false, IN_ROWS, false, 0)
+                }
                 Scope::EveryRow => wide_edit(),
                 Scope::OfInterface(_) => wide_edit(),
             }
         }
+        Change::Seen(e, id) => edit_with(
+            32,
+            false,
+            PLACES,
+            false,
+            none,
+            false,
+            watched_row(e),
+            true,
+            id,
+        ),
     }
 }
 
-// Stores an edit in the columns that it changes, except the slot of its place; what the live places lie below then.
+// Stores an edit in the columns that it changes, except the slot of its place and the watch; what the live places lie below then.
 pub fn store(
     e: Edit,
     used: usize,

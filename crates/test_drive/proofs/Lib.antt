@@ -1,4 +1,5 @@
 pub mod RecordBytes
+pub mod WatchBytes
 pub mod ScriptRuns
 mod Records
 mod Columns

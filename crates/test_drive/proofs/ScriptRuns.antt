@@ -19,7 +19,7 @@ use Rattle.session.specs.declared.Session.{Session}
 use Rattle.session.specs.Session.{freshSession, linkOf}
 use Rattle.gate.specs.declared.Answer.{Answer}
 use Rattle.gate.specs.Offer.{outcome, offerOf}
-use Rattle.test_drive.specs.Drive.{itemSize, pieceAt, senderAt, halfOf, baseOf, ownOf, withOwn, Run, recorded, ranCall, runOf, driven, Drives}
+use Rattle.test_drive.specs.Drive.{itemSize, pieceAt, senderAt, watchBytes, halfOf, baseOf, ownOf, withOwn, Run, recorded, ranCall, runOf, driven, Drives}
 use Rattle.test_drive.specs.ScriptSteps.{answerBytes}
 use Rattle.test_drive.proofs.RecordBytes.{behind, answer-length, answer-bytes}
 
@@ -125,20 +125,24 @@ module _ {script holds₀ out₀ holds out : List ℕ} {s : Session} {at k : ℕ
         to-come = sym y ∙ rw e at (p .to-come);
       }
 
-  -- where nothing is to come, the run so far is all of it
-  stops : runOf (length out₀ / 26 - k) now-run (drop at script) ≡ now-run → Drives script holds₀ out₀ holds out k
-  stops e =
+  -- where nothing is to come, the run so far is all of it; its watch is laid behind the records
+  stops : runOf (length out₀ / 26 - k) now-run (drop at script) ≡ now-run → {out′ : List ℕ} → out′ ≡ sets out (k * 26) (watchBytes (s .watch)) → Drives script holds₀ out₀ holds out′ k
+  stops e w =
       let z : now-run ≡ driven script holds₀ out₀ = sym e ∙ p .to-come in
       record {
         count-is = ap (λ (x : Run). x .calls) z;
         holds-are = ap (λ (x : Run). x .holds) z;
-        output = p .laid ∙ ap (λ (x : Run). sets out₀ 0 (x .records)) z;
+        output =
+            behind out₀ 0 (k * 26) (k * 26) (p .records) (watchBytes (s .watch)) (p .records-length) (omega arith) (p .laid) w
+            ∙ ap (λ (x : Run). sets out₀ 0 (x .records ++ watchBytes (x .session .watch))) z;
       }
 
-  pub drive-short : {rest : List ℕ} {n : ℕ} → rest ≡ drop at script → n ≡ le 4 rest 1 → length rest < 5 + n → Drives script holds₀ out₀ holds out k
+  pub drive-short : {rest : List ℕ} {n : ℕ} → rest ≡ drop at script → n ≡ le 4 rest 1 → length rest < 5 + n → {out′ : List ℕ}
+      → out′ ≡ sets out (k * 26) (watchBytes (s .watch))
+      → Drives script holds₀ out₀ holds out′ k
   drive-short r en w = stops (run-short _ _ (drop at script) (rw (← r, ← en) w))
 
-  pub drive-full : length out₀ / 26 ≤ k → Drives script holds₀ out₀ holds out k
+  pub drive-full : length out₀ / 26 ≤ k → {out′ : List ℕ} → out′ ≡ sets out (k * 26) (watchBytes (s .watch)) → Drives script holds₀ out₀ holds out′ k
   drive-full h =
       let e : length out₀ / 26 - k ≡ 0 = omega arith in
       stops (rw e (run-full now-run (drop at script)))

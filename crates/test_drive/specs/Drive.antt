@@ -14,6 +14,8 @@ use Rattle.header.specs.declared.Side.{Side}
 use Rattle.header.specs.declared.Side.the-variants.{Guest, Host}
 use Rattle.header.specs.Link.{sideOf}
 use Rattle.decoder.specs.Reading.{PacketTold}
+use Rattle.watch.specs.declared.Watch.{Watch}
+use Rattle.watch.specs.Watch.{RowWatch, inRows, watchAt}
 use Rattle.session.specs.declared.Session.{Session}
 use Rattle.session.specs.Session.{freshSession}
 use Rattle.frame.specs.declared.Location.{Location}
@@ -62,6 +64,19 @@ recordBytes number location taken size start end id =
 abbrev pub recordOf : Outcome → List ℕ
 recordOf o = recordBytes (o .number) (locationNumber (o .location)) (o .taken) (o .size) (startOf (o .handed)) (endOf (o .handed)) (idHanded (o .handed))
 
+-- ---- the watch: 18 bytes for each IN row, its breaks, its last gap and the id that it expects
+
+abbrev pub rowBytes : RowWatch → List ℕ
+rowBytes r = bytesOf 2 (r .breaks) ++ bytesOf 8 (r .gap) ++ bytesOf 8 (r .expected)
+
+-- of n rows, from row i on
+unfoldable pub rowsBytes : Watch → ℕ → ℕ → List ℕ
+rowsBytes w i zero = []
+rowsBytes w i (suc n) = rowBytes (watchAt w i) ++ rowsBytes w (suc i) n
+
+abbrev pub watchBytes : Watch → List ℕ
+watchBytes w = rowsBytes w 0 inRows
+
 -- ---- the halves of the buffer: the first is the guest's, the second the host's, and a last odd byte is in neither
 
 abbrev pub halfOf : List ℕ → ℕ
@@ -108,8 +123,8 @@ runOf (suc n) r script = cond (itemWhole script) (runOf n (ranCall r (senderAt s
 unfoldable pub driven : List ℕ → List ℕ → List ℕ → Run
 driven script holds out = runOf (length out / 26) (begun holds) script
 
--- the records stand at the front of the output, and the number of calls is told
+-- the records stand at the front of the output, the watch after all calls behind them, as far as it goes, and the number of calls is told
 pub record Drives (script holds out holds′ out′ : List ℕ) (count : ℕ) : Type 0 where
   pub count-is : count ≡ driven script holds out .calls
   pub holds-are : holds′ ≡ driven script holds out .holds
-  pub output : out′ ≡ sets out 0 (driven script holds out .records)
+  pub output : out′ ≡ sets out 0 (driven script holds out .records ++ watchBytes (driven script holds out .session .watch))

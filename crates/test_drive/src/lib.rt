@@ -4,7 +4,7 @@ ghost use mathlib.Core.Path.{_≡_};
 ghost use Prim.Native.Nat.{_+_, _≤_};
 ghost use lib.ListN.{length};
 ghost use lib.Seq.{sets};
-ghost use Rattle.test_drive.specs.Drive.{locationNumber, baseOf, Drives};
+ghost use Rattle.test_drive.specs.Drive.{locationNumber, watchBytes, baseOf, Drives};
 ghost use Rattle.test_drive.specs.ScriptSteps.{spanOf, answerBytes};
 use device::Rows;
 use frame::Location;
@@ -31,8 +31,12 @@ use session::Session;
 use session::apply;
 use session::edit_of;
 use session::fresh_session;
+use session::has_wide_ids;
 use session::hold_to;
 use session::store;
+use watch::IN_ROWS;
+use watch::Watch;
+use watch::note;
 
 // Where the part that a packet names stands among the packet's bytes, and the packet's id.
 struct Span {
@@ -90,6 +94,19 @@ pub fn put_record(out: &mut [u8], at: usize, a: Answer)
     put(r, 18, 8, data.id);
 }
 
+// Lays a watch: for each IN row its breaks (2), its last gap (8) and the id that it expects (8).
+pub fn put_watch(out: &mut [u8], w: Watch)
+    ensures { λ _. ⌜ now (out .exit) ≡ sets (now (out .entry)) 0 (watchBytes w) ⌝ }
+{
+    let mut i: usize = 0;
+    while i < IN_ROWS {
+        put(out, i * 18, 2, w.breaks[i] as u64);
+        put(out, i * 18 + 2, 8, w.gaps[i]);
+        put(out, i * 18 + 10, 8, w.expected[i]);
+        i += 1;
+    }
+}
+
 // Where a side's half of the holding buffer starts.
 pub fn base_of(from: Side, half: usize) -> usize
     ensures { λ r. ⌜ r ≡ baseOf from half ⌝ }
@@ -103,7 +120,8 @@ pub fn base_of(from: Side, half: usize) -> usize
 // Makes a reader call for each item of the script, as far as the script and the output go, and tells how many. An item is a byte for
 // the sender (0 guest, else host), four bytes for the size of the piece, and the piece. The guest's bytes are held in the first half of
 // `holds`, the host's in the second. Each call has 26 bytes of the output: number (1), location (1: 0 nowhere, 1 piece, 2 buffer), taken
-// (4), size (4), where the data starts and ends among the packet's bytes (4, 4), id (8).
+// (4), size (4), where the data starts and ends among the packet's bytes (4, 4), id (8). Behind the last of them
+// is laid the watch after all calls, as far as the output goes.
 // The columns of the session are locals: what a call changes is stored in place, but for the rare changes that `apply` makes.
 #[no_mangle]
 pub extern "C" fn test_drive(script: &[u8], holds: &mut [u8], out: &mut [u8]) -> usize
@@ -121,6 +139,10 @@ pub extern "C" fn test_drive(script: &[u8], holds: &mut [u8], out: &mut [u8]) ->
     let mut kinds = t.kinds;
     let mut ids = t.ids;
     let mut slots = t.slots;
+    let w = start.watch;
+    let mut expected = w.expected;
+    let mut gaps = w.gaps;
+    let mut breaks = w.breaks;
     let mut at: usize = 0;
     let mut k: usize = 0;
     let room = out.len() / 26;
@@ -129,6 +151,14 @@ pub extern "C" fn test_drive(script: &[u8], holds: &mut [u8], out: &mut [u8]) ->
         let rest = &script[at..];
         let size = 5 + get32(rest, 1) as usize;
         if rest.len() < size {
+            put_watch(
+                &mut out[k * 26..],
+                Watch {
+                    expected,
+                    gaps,
+                    breaks,
+                },
+            );
             return k;
         }
         let from = side_of(get8(rest, 0));
@@ -147,8 +177,12 @@ pub extern "C" fn test_drive(script: &[u8], holds: &mut [u8], out: &mut [u8]) ->
             hold,
             piece,
         );
-        let w = wanted(d);
-        let slot = if w < PLACES { slots[w] } else { free_slot() };
+        let wait = wanted(d);
+        let slot = if wait < PLACES {
+            slots[wait]
+        } else {
+            free_slot()
+        };
         let e = settle(d, slot);
         let answer = e.answer;
         let c = change_of(e);
@@ -174,6 +208,11 @@ pub extern "C" fn test_drive(script: &[u8], holds: &mut [u8], out: &mut [u8]) ->
                         ids,
                         slots,
                     },
+                    watch: Watch {
+                        expected,
+                        gaps,
+                        breaks,
+                    },
                 },
                 from,
                 c,
@@ -190,6 +229,10 @@ pub extern "C" fn test_drive(script: &[u8], holds: &mut [u8], out: &mut [u8]) ->
             kinds = t.kinds;
             ids = t.ids;
             slots = t.slots;
+            let w = s.watch;
+            expected = w.expected;
+            gaps = w.gaps;
+            breaks = w.breaks;
         } else {
             used = store(edit, used, &mut streams, &mut live, &mut kinds, &mut ids);
             let place = edit.place;
@@ -197,10 +240,27 @@ pub extern "C" fn test_drive(script: &[u8], holds: &mut [u8], out: &mut [u8]) ->
                 let q = edit.request;
                 slots[place] = slot_for(q);
             }
+            note(
+                edit.watched,
+                edit.seen,
+                has_wide_ids(h),
+                edit.id,
+                &mut expected,
+                &mut gaps,
+                &mut breaks,
+            );
         }
         put_record(out, k * 26, answer);
         at = at + size;
         k += 1;
     }
+    put_watch(
+        &mut out[k * 26..],
+        Watch {
+            expected,
+            gaps,
+            breaks,
+        },
+    );
     k
 }

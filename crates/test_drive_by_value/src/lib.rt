@@ -9,8 +9,9 @@ use octets::part;
 use session::fresh_session;
 use test_drive::base_of;
 use test_drive::put_record;
+use test_drive::put_watch;
 
-// The script, the holding buffers and the records are those of `test_drive`.
+// The script, the holding buffers, the records and the watch are those of `test_drive`.
 #[no_mangle]
 pub extern "C" fn test_drive_by_value(script: &[u8], holds: &mut [u8], out: &mut [u8]) -> usize
     ensures { λ r. ⌜ Drives (now (script .entry)) (now (holds .entry)) (now (out .entry)) (now (holds .exit)) (now (out .exit)) r ⌝ }
@@ -24,6 +25,8 @@ pub extern "C" fn test_drive_by_value(script: &[u8], holds: &mut [u8], out: &mut
         let rest = &script[at..];
         let size = 5 + get32(rest, 1) as usize;
         if rest.len() < size {
+            let w = s.watch;
+            put_watch(&mut out[k * 26..], w);
             return k;
         }
         let from = side_of(get8(rest, 0));
@@ -36,5 +39,7 @@ pub extern "C" fn test_drive_by_value(script: &[u8], holds: &mut [u8], out: &mut
         at = at + size;
         k += 1;
     }
+    let w = s.watch;
+    put_watch(&mut out[k * 26..], w);
     k
 }

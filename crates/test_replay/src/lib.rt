@@ -42,6 +42,7 @@ fn refuse(s: Session, kind: u32) -> Session
     let mut head = s.head;
     let rows = s.rows;
     let requests = s.requests;
+    let watch = s.watch;
     if kind == 0 {
         head.stopped = true;
     }
@@ -49,6 +50,7 @@ fn refuse(s: Session, kind: u32) -> Session
         head,
         rows,
         requests,
+        watch,
     }
 }
 

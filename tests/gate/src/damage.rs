@@ -19,7 +19,7 @@ const UNKNOWN: [u32; 10] = [
 ];
 
 /// Where the body of a kind has its endpoint or, for 9 to 11, its interface.
-fn endpoint_at(kind: u32) -> usize {
+pub fn endpoint_at(kind: u32) -> usize {
     match kind {
         11 | 14 | 17 => 1,
         25 | 104 => 8,
@@ -28,7 +28,8 @@ fn endpoint_at(kind: u32) -> usize {
     }
 }
 
-fn status_at(kind: u32) -> usize {
+/// Where it has its status.
+pub fn status_at(kind: u32) -> usize {
     match kind {
         20 => 8,
         27 => 5,

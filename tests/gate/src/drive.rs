@@ -2,32 +2,40 @@
 
 use crate::script::{difference, Call, Outcome, Script};
 
-pub use library::{run, run_by_value, Run, RECORD};
+pub use library::{run, run_by_value, Run, RECORD, WATCH};
 
 pub fn by_drive(run: Run, script: &Script) -> Outcome {
     let mut holds = script.holds();
-    let mut out = vec![0; script.items.len() * RECORD];
+    // All of it is written, whatever it held.
+    let mut out = vec![0xaa; script.items.len() * RECORD + WATCH];
     let made = run(&script.bytes(), &mut holds, &mut out);
-    let calls = out.chunks(RECORD).take(made).map(Call::read).collect();
-    Outcome { calls, holds }
+    let (records, behind) = out.split_at(made * RECORD);
+    let calls = records.chunks(RECORD).map(Call::read).collect();
+    let mut watch = [0; WATCH];
+    watch.copy_from_slice(&behind[..WATCH]);
+    Outcome {
+        calls,
+        holds,
+        watch,
+    }
 }
 
-/// Where a function of the library differs from the plain gate on a script.
-fn differs(script: &Script) -> Option<String> {
-    let plain = script.by_plain();
+/// Where a function of the library differs on a script from what the plain gate told.
+fn differs(script: &Script, plain: &Outcome) -> Option<String> {
     [run as Run, run_by_value]
         .iter()
-        .find_map(|run| difference(&plain, &by_drive(*run, script)))
+        .find_map(|run| difference(plain, &by_drive(*run, script)))
 }
 
 /// Runs a script through all. Where they differ: in what, with a script that shows it and is as
 /// short as leaving out calls makes it.
 pub fn compare(script: &Script) -> Result<Outcome, String> {
-    match differs(script) {
-        None => Ok(script.by_plain()),
+    let plain = script.by_plain();
+    match differs(script, &plain) {
+        None => Ok(plain),
         Some(_) => {
             let small = shrink(script.clone());
-            let what = differs(&small).unwrap_or_default();
+            let what = differs(&small, &small.by_plain()).unwrap_or_default();
             Err(format!("{what}\n{}", small.lines()))
         }
     }
@@ -42,7 +50,7 @@ fn shrink(mut script: Script) -> Script {
             let mut shorter = script.clone();
             let end = (at + run).min(shorter.items.len());
             shorter.items.drain(at..end);
-            if differs(&shorter).is_some() {
+            if differs(&shorter, &shorter.by_plain()).is_some() {
                 script = shorter;
             } else {
                 at += run;

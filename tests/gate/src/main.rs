@@ -1,25 +1,31 @@
-//! Compares the proved gate with the plain one, answer by answer.
+//! Compares the proved gate with the plain one, answer by answer, and the watch after each script.
 //!
 //! Fixed seeds are run, and one more: the environment variable SEED, or else one from the clock. The
 //! last line is `N passed, M failed`.
 
+mod by_hand;
 mod captures;
 mod damage;
 mod delivery;
 mod drive;
 mod script;
+mod streams;
+mod tally;
 mod traffic;
+mod watch;
 
 use std::collections::{BTreeMap, BTreeSet};
 use std::fs;
 use std::process::ExitCode;
 
+use library::ROW_WATCH;
 use plain::{Side, HOLD_SIZE};
-use tools::{Random, Report};
+use tools::{hex, Random, Report};
 
 use delivery::{deliver, Mode};
-use drive::{by_drive, compare, run, run_by_value, Run, RECORD};
+use drive::{by_drive, compare, run, run_by_value, Run, RECORD, WATCH};
 use script::{Item, Line, Script};
+use tally::Tally;
 use traffic::{plan, shared_sets, Sent, Style};
 
 const FIXED_SEEDS: [u64; 2] = [1, 2];
@@ -64,6 +70,26 @@ fn main() -> ExitCode {
             &format!("ignored bits and words, seed {seed}"),
             ignored(seed),
         );
+        let mut tally = Tally::default();
+        test(
+            &mut report,
+            &format!("watched streams, seed {seed}"),
+            watch::random(seed, &mut tally),
+        );
+        test(
+            &mut report,
+            &format!("everything happens to the watch, seed {seed}"),
+            tally.check(),
+        );
+    }
+    for case in by_hand::cases() {
+        let name = format!("watch by hand, {}", case.name);
+        test(&mut report, &name, watch::by_hand(&case));
+    }
+    test(&mut report, "the end of the watch's bytes", watch::ends());
+    for wide in [false, true] {
+        let name = format!("a full count, ids of {} bits", if wide { 64 } else { 32 });
+        test(&mut report, &name, watch::full_count(wide));
     }
     capture_tests(&mut report);
     report.finish()
@@ -175,7 +201,7 @@ fn all_occur(counts: &BTreeMap<u8, usize>) -> Result<String, String> {
 }
 
 /// The same packets, made whole in the same order, cut in two ways: the same answers other than
-/// 1, 2 and 3.
+/// 1, 2 and 3, and the same watch.
 fn cuts(seed: u64) -> Result<String, String> {
     let mut random = Random::new(seed ^ 0x6375_7473);
     let sets = shared_sets();
@@ -200,20 +226,21 @@ fn cuts(seed: u64) -> Result<String, String> {
         let [whole, one, two] = [&first, &cut_one, &cut_two].map(answers);
         if whole != one || one != two {
             return Err(format!(
-                "round {round}, other answers:\n{}{}{}",
+                "round {round}, other answers or watch:\n{}{}{}",
                 first.lines(),
                 cut_one.lines(),
                 cut_two.lines()
             ));
         }
-        packets += whole.len();
+        packets += whole.0.len();
     }
     Ok(format!(
         "{packets} packets of {CUTS} sessions, each cut in three ways"
     ))
 }
 
-/// Sessions whose hellos differ only in the bits and words that are ignored: the same numbers.
+/// Sessions whose hellos differ only in the bits and words that are ignored: the same numbers, and
+/// the same watch.
 fn ignored(seed: u64) -> Result<String, String> {
     let mut random = Random::new(seed ^ 0x626974);
     let sets = shared_sets();
@@ -239,7 +266,7 @@ fn ignored(seed: u64) -> Result<String, String> {
             let [one, two] = [&script, &other].map(|script| numbers(run, script));
             if one != two {
                 return Err(format!(
-                    "round {round}, other numbers:\n{}{}",
+                    "round {round}, other numbers or watch:\n{}{}",
                     script.lines(),
                     other.lines()
                 ));
@@ -263,9 +290,10 @@ fn change_ignored(random: &mut Random, hello: &mut Vec<u8>) {
     hello[4..8].copy_from_slice(&length.to_le_bytes());
 }
 
-fn numbers(run: Run, script: &Script) -> Vec<u8> {
+fn numbers(run: Run, script: &Script) -> (Vec<u8>, [u8; WATCH]) {
     let told = by_drive(run, script);
-    told.calls.iter().map(|call| call.number).collect()
+    let numbers = told.calls.iter().map(|call| call.number);
+    (numbers.collect(), told.watch)
 }
 
 /// The packets and refused headers that a script's calls tell of.
@@ -280,10 +308,13 @@ fn events(script: &Script) -> Vec<Sent> {
     events
 }
 
-/// What the proved gate answers to a script, other than 1, 2 and 3, without what depends on cuts.
-fn answers(script: &Script) -> Vec<(Side, u8, u32, u32, u32, u64)> {
+/// An answer without what depends on cuts: sender, number, size, the data's start and end, id.
+type Uncut = (Side, u8, u32, u32, u32, u64);
+
+/// What the proved gate answers to a script, other than 1, 2 and 3, and the watch then.
+fn answers(script: &Script) -> (Vec<Uncut>, [u8; WATCH]) {
     let told = by_drive(run, script);
-    script
+    let answers = script
         .items
         .iter()
         .zip(&told.calls)
@@ -298,7 +329,8 @@ fn answers(script: &Script) -> Vec<(Side, u8, u32, u32, u32, u64)> {
                 call.id,
             )
         })
-        .collect()
+        .collect();
+    (answers, told.watch)
 }
 
 /// A script cut short is run up to its last whole item; a short output ends it, too.
@@ -352,9 +384,12 @@ fn ends() -> Result<String, String> {
                         "{size} bytes of script, {room} of output: {made} calls, not {expected}"
                     ));
                 }
-                if out[made * RECORD..].iter().any(|byte| *byte != 0xaa) {
+                // The hellos and what follows leave the watch at 0.
+                let (watch, behind) =
+                    out[made * RECORD..].split_at((room - made * RECORD).min(WATCH));
+                if watch.iter().any(|byte| *byte != 0) || behind.iter().any(|byte| *byte != 0xaa) {
                     return Err(format!(
-                        "{size} bytes of script, {room} of output: written behind the last record"
+                        "{size} bytes of script, {room} of output: behind the last record"
                     ));
                 }
             }
@@ -364,7 +399,7 @@ fn ends() -> Result<String, String> {
     Ok(format!("{runs} runs"))
 }
 
-/// Each capture through both, and its totals against those that are stored.
+/// Each capture through both, its totals against those that are stored, and no break in its streams.
 fn capture_tests(report: &mut Report) {
     let path = captures::directory().join("totals.txt");
     let stored = fs::read_to_string(&path).unwrap_or_default();
@@ -375,7 +410,14 @@ fn capture_tests(report: &mut Report) {
         let result = compare(&script).and_then(|outcome| {
             let totals =
                 captures::totals(&name, outcome.calls.iter().map(|call| call.number), stopped);
-            if stored.lines().any(|line| line == totals) {
+            // None of their streams lost a packet.
+            let breaks = outcome
+                .watch
+                .chunks(ROW_WATCH)
+                .any(|row| row[..10] != [0; 10]);
+            if breaks {
+                Err(format!("a break: {}", hex::digits(&outcome.watch)))
+            } else if stored.lines().any(|line| line == totals) {
                 Ok(totals)
             } else {
                 Err(format!("not the stored totals: {totals}"))

@@ -2,7 +2,7 @@
 
 use std::ops::Range;
 
-use library::record_of;
+use library::{record_of, watch_of, ROW_WATCH, WATCH};
 use plain::{offer, Session, Side};
 use tools::{hex, Random};
 
@@ -35,11 +35,12 @@ pub struct Call {
     pub id: u64,
 }
 
-/// What a script's calls told, and the buffers after them.
+/// What a script's calls told, and the buffers and the watch after them.
 #[derive(PartialEq, Eq)]
 pub struct Outcome {
     pub calls: Vec<Call>,
     pub holds: Vec<u8>,
+    pub watch: [u8; WATCH],
 }
 
 impl Script {
@@ -135,6 +136,7 @@ impl Line {
 
     pub fn outcome(self) -> Outcome {
         Outcome {
+            watch: watch_of(&self.session),
             calls: self.calls,
             holds: self.holds,
         }
@@ -164,6 +166,9 @@ impl Call {
 
 /// The first thing in which two outcomes differ.
 pub fn difference(plain: &Outcome, drive: &Outcome) -> Option<String> {
+    if plain == drive {
+        return None;
+    }
     for (at, (left, right)) in plain.calls.iter().zip(&drive.calls).enumerate() {
         if left != right {
             return Some(format!("call {}: plain {left:?}, drive {right:?}", at + 1));
@@ -176,13 +181,20 @@ pub fn difference(plain: &Outcome, drive: &Outcome) -> Option<String> {
             drive.calls.len()
         ));
     }
-    let at = plain
-        .holds
-        .iter()
-        .zip(&drive.holds)
-        .position(|(left, right)| left != right)?;
+    let mut bytes = plain.holds.iter().zip(&drive.holds);
+    if let Some(at) = bytes.position(|(left, right)| left != right) {
+        return Some(format!(
+            "buffers at {at}: plain {:02x}, drive {:02x}",
+            plain.holds[at], drive.holds[at]
+        ));
+    }
+    let mut rows = (16..)
+        .zip(plain.watch.chunks(ROW_WATCH))
+        .zip(drive.watch.chunks(ROW_WATCH));
+    let ((row, left), right) = rows.find(|((_, left), right)| left != right)?;
     Some(format!(
-        "buffers at {at}: plain {:02x}, drive {:02x}",
-        plain.holds[at], drive.holds[at]
+        "watch of row {row}: plain {}, drive {}",
+        hex::digits(left),
+        hex::digits(right)
     ))
 }

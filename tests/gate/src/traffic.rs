@@ -13,9 +13,9 @@ use crate::script::{Line, Script};
 pub type Sent = (Side, Vec<u8>);
 
 const CONTROL: u8 = 0;
-const ISO: u8 = 1;
-const BULK: u8 = 2;
-const INTERRUPT: u8 = 3;
+pub const ISO: u8 = 1;
+pub const BULK: u8 = 2;
+pub const INTERRUPT: u8 = 3;
 const INVALID: u8 = 255;
 
 /// What kind of traffic to make.
@@ -86,6 +86,11 @@ fn words(random: &mut Random, shared: u32) -> (u32, u32) {
 
 /// Packets in their order.
 pub fn plan(random: &mut Random, style: &Style) -> Vec<Sent> {
+    plan_by(random, style, |planner| planner.next())
+}
+
+/// Packets in their order, each made by `next`.
+pub fn plan_by(random: &mut Random, style: &Style, next: fn(&mut Planner) -> Sent) -> Vec<Sent> {
     let script = Script {
         hold_size: HOLD_SIZE,
         fill: 0,
@@ -103,7 +108,7 @@ pub fn plan(random: &mut Random, style: &Style) -> Vec<Sent> {
     planner.new_table();
     let mut packets = Vec::new();
     for _ in 0..style.packets {
-        let sent = planner.next();
+        let sent = next(&mut planner);
         let (side, bytes) = planner.maybe_damaged(sent);
         planner.feed(side, &bytes);
         packets.push((side, bytes));
@@ -125,7 +130,7 @@ pub struct Planner<'a> {
     interfaces: [u8; 32],
 }
 
-fn endpoint_of(row: usize) -> u8 {
+pub fn endpoint_of(row: usize) -> u8 {
     (row & 15 | (row & 16) << 3) as u8
 }
 
@@ -134,7 +139,7 @@ impl Planner<'_> {
         &self.model.session
     }
 
-    fn has(&self, bit: u32) -> bool {
+    pub fn has(&self, bit: u32) -> bool {
         self.session().shared() >> bit & 1 == 1
     }
 
@@ -150,7 +155,7 @@ impl Planner<'_> {
         }
     }
 
-    fn frame(&self, kind: u32, id: u64, body: &[u8]) -> Vec<u8> {
+    pub fn frame(&self, kind: u32, id: u64, body: &[u8]) -> Vec<u8> {
         let mut bytes = kind.to_le_bytes().to_vec();
         bytes.extend((body.len() as u32).to_le_bytes());
         if self.session().is_wide() && kind != 0 {
@@ -164,7 +169,12 @@ impl Planner<'_> {
 
     // ---- which packet comes next ----
 
-    fn next(&mut self) -> Sent {
+    /// Whether a device is there and no packet waits for its turn.
+    pub fn is_free(&self) -> bool {
+        self.session().device_present() && self.queue.is_empty()
+    }
+
+    pub fn next(&mut self) -> Sent {
         if let Some(sent) = self.queue.pop_front() {
             return sent;
         }
@@ -292,6 +302,16 @@ impl Planner<'_> {
         self.types[16] = CONTROL;
     }
 
+    /// An endpoint table with some rows that may have changed.
+    pub fn changed_table(&mut self) -> Vec<u8> {
+        for _ in 0..self.random.below(3) {
+            let row = self.random.pick(&[1, 2, 3, 17, 18, 19]);
+            self.types[row] = self.random.pick(&[ISO, BULK, INTERRUPT, INVALID]);
+            self.interfaces[row] = self.random.below(3) as u8;
+        }
+        self.endpoint_table()
+    }
+
     fn endpoint_table(&mut self) -> Vec<u8> {
         let mut body = self.types.to_vec();
         body.resize(64, 10);
@@ -323,14 +343,7 @@ impl Planner<'_> {
         match self.random.below(100) {
             0..=54 => self.reply(),
             55..=79 => self.stream_data(),
-            80..=84 => {
-                for _ in 0..self.random.below(3) {
-                    let row = self.random.pick(&[1, 2, 3, 17, 18, 19]);
-                    self.types[row] = self.random.pick(&[ISO, BULK, INTERRUPT, INVALID]);
-                    self.interfaces[row] = self.random.below(3) as u8;
-                }
-                self.endpoint_table()
-            }
+            80..=84 => self.changed_table(),
             85 | 86 => self.interface_table(),
             87 => self.connect(),
             88 if self.random.percent(60) => self.frame(2, 0, &[]),
@@ -406,7 +419,7 @@ impl Planner<'_> {
         self.frame(kind, id, &body)
     }
 
-    fn reply(&mut self) -> Vec<u8> {
+    pub fn reply(&mut self) -> Vec<u8> {
         let live: Vec<Request> = self.session().live_requests().collect();
         if live.is_empty() {
             return self.stream_data();
@@ -415,7 +428,7 @@ impl Planner<'_> {
         self.reply_to(request)
     }
 
-    fn reply_to(&mut self, request: Request) -> Vec<u8> {
+    pub fn reply_to(&mut self, request: Request) -> Vec<u8> {
         let status = if self.random.percent(75) {
             0
         } else {
@@ -504,7 +517,7 @@ impl Planner<'_> {
         self.guest_kind(kind)
     }
 
-    fn guest_kind(&mut self, kind: u32) -> Vec<u8> {
+    pub fn guest_kind(&mut self, kind: u32) -> Vec<u8> {
         let id = self.request_id();
         match kind {
             3 | 21 => {
@@ -609,7 +622,7 @@ impl Planner<'_> {
     }
 
     /// Mostly an id that no live request has.
-    fn request_id(&mut self) -> u64 {
+    pub fn request_id(&mut self) -> u64 {
         match self.random.below(100) {
             0..=2 => self.random.below(4) as u64,
             3 | 4 => self.live_id(),

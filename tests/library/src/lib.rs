@@ -1,6 +1,6 @@
 //! The proved gate as a Rust function, and captures as pieces: what the tests of the gate and the benchmark share.
 
-use plain::{Answer, Place, Side};
+use plain::{Answer, Place, Session, Side, IN_ROWS};
 use tools::captures;
 
 extern "C" {
@@ -26,7 +26,14 @@ extern "C" {
 /// Bytes that the library writes for each call.
 pub const RECORD: usize = 26;
 
-/// Runs a script's bytes, and tells how many calls were made. The guest's holding buffer is the first half of `holds`, the host's the second.
+/// Bytes that the library writes for the watch of an IN row: its breaks (2), its last gap (8) and the id that it expects (8).
+pub const ROW_WATCH: usize = 18;
+
+/// Bytes of the whole watch.
+pub const WATCH: usize = IN_ROWS * ROW_WATCH;
+
+/// Runs a script's bytes, and tells how many calls were made. The guest's holding buffer is the first half of `holds`, the host's the second. Behind
+/// the records stands the watch after all calls, as far as the output goes.
 pub type Run = fn(script: &[u8], holds: &mut [u8], out: &mut [u8]) -> usize;
 
 /// With the session's columns kept, and changed in place.
@@ -80,6 +87,17 @@ pub fn record_of(answer: &Answer) -> [u8; RECORD] {
     record[14..18].copy_from_slice(&end.to_le_bytes());
     record[18..26].copy_from_slice(&id.to_le_bytes());
     record
+}
+
+/// The watch of the plain gate, as the library writes it.
+pub fn watch_of(session: &Session) -> [u8; WATCH] {
+    let mut bytes = [0; WATCH];
+    for (row, watch) in bytes.chunks_exact_mut(ROW_WATCH).zip(session.watch()) {
+        row[..2].copy_from_slice(&watch.breaks.to_le_bytes());
+        row[2..10].copy_from_slice(&watch.last_gap.to_le_bytes());
+        row[10..].copy_from_slice(&watch.expected.to_le_bytes());
+    }
+    bytes
 }
 
 /// The pieces of a capture.

@@ -10,6 +10,7 @@
 //! | `wire` | the kinds and the wire checks, numbers 13 and 20 to 24 |
 //! | `device` | introduction, rows, streams |
 //! | `requests` | the 96 places |
+//! | `watch` | ids of stream packets: breaks and gaps |
 //! | `session` | the session checks, numbers 25 to 34 |
 //! | `reader` | pieces, holding buffers, numbers 0 to 3, 41 and 43 |
 //! | `report` | the report program |
@@ -24,9 +25,11 @@ mod requests;
 mod session;
 #[cfg(test)]
 mod tests;
+mod watch;
 mod wire;
 
 pub use header::{Header, Side, LENGTH_LIMIT};
 pub use reader::{offer, Answer, Handed, Place, HOLD_SIZE};
 pub use requests::{Request, PLACES};
 pub use session::Session;
+pub use watch::{RowWatch, IN_ROWS};

@@ -3,6 +3,7 @@
 use crate::device::{row_of, Device, Introduction};
 use crate::header::{u32_at, Header, Side};
 use crate::requests::{Request, Requests};
+use crate::watch::{RowWatch, Watch, IN_ROWS};
 use crate::wire::{bit, data_length, first_word, is_in, BULK, CONTROL, INTERRUPT, ISO};
 
 const SUCCESS: u8 = 0;
@@ -21,6 +22,7 @@ pub struct Session {
     ack_owed: bool,
     device: Device,
     requests: Requests,
+    watch: Watch,
 }
 
 impl Default for Session {
@@ -40,6 +42,7 @@ impl Session {
             ack_owed: false,
             device: Device::start(),
             requests: Requests::start(),
+            watch: Watch::start(),
         }
     }
 
@@ -96,6 +99,11 @@ impl Session {
         self.requests.live()
     }
 
+    /// The watch of rows 16 to 31.
+    pub fn watch(&self) -> &[RowWatch; IN_ROWS] {
+        self.watch.rows()
+    }
+
     /// Judges a packet that the wire checks let through. Only a packet that passes changes the
     /// session.
     pub(crate) fn judge(&mut self, from: Side, header: &Header, body: &[u8]) -> Result<(), u8> {
@@ -116,11 +124,11 @@ impl Session {
                 self.device.close_all();
             }
             21 => {}
-            102 => self.stream_data(from, ISO, body[0])?,
+            102 => self.stream_data(from, header.id, ISO, body[0])?,
             103 if from == Side::Host && is_in(body[0]) => {
-                self.stream_data(from, INTERRUPT, body[0])?
+                self.stream_data(from, header.id, INTERRUPT, body[0])?
             }
-            104 => self.stream_data(from, BULK, body[8])?,
+            104 => self.stream_data(from, header.id, BULK, body[8])?,
             _ => {
                 return match from {
                     Side::Guest => self.request(header, body),
@@ -169,25 +177,36 @@ impl Session {
         Ok(())
     }
 
-    /// Back to the start; hellos and held bytes stay.
+    /// Back to the start; hellos and held bytes stay, and so do the watch's counts and gaps.
     fn disconnect(&mut self) {
         self.device = Device::start();
         self.requests.free_all();
+        self.watch.restart_all();
         self.ack_owed = self.shared & bit::DISCONNECT_ACK != 0;
     }
 
-    /// Data that belongs to a stream.
-    fn stream_data(&self, from: Side, wanted: u8, endpoint: u8) -> Result<(), u8> {
+    /// Data that belongs to a stream. The host's is watched.
+    #[inline(always)]
+    fn stream_data(&mut self, from: Side, id: u64, wanted: u8, endpoint: u8) -> Result<(), u8> {
         let row = row_of(endpoint);
         if self.device.row_type(row) != wanted {
-            Err(28)
-        } else if from == Side::Guest && self.requests.is_settling() {
-            Err(29)
-        } else if !self.device.is_open(row) {
-            Err(30)
-        } else {
-            Ok(())
+            return Err(28);
         }
+        if from == Side::Guest && self.requests.is_settling() {
+            return Err(29);
+        }
+        if !self.device.is_open(row) {
+            return Err(30);
+        }
+        if from == Side::Host {
+            let largest = if self.is_wide() {
+                u64::MAX
+            } else {
+                u64::from(u32::MAX)
+            };
+            self.watch.passed(row, id, largest);
+        }
+        Ok(())
     }
 
     /// A guest's packet that takes a place.
@@ -233,6 +252,7 @@ impl Session {
         });
         if matches!(kind, 12 | 15 | 25) {
             self.device.set_stream(row_of(target), true);
+            self.watch.restart(row_of(target));
         }
         Ok(())
     }
@@ -272,6 +292,9 @@ impl Session {
             if self.device.row_type(row) == wanted {
                 let started = request == Some(answers[0]) && status == SUCCESS;
                 self.device.set_stream(row, started);
+            }
+            if status == STALL {
+                self.watch.restart(row);
             }
         }
         if status == SUCCESS {

@@ -781,6 +781,579 @@ fn a_count_near_32_bits_is_not_added_to() {
     );
 }
 
+// ---- watch ----
+
+/// OUT rows 1 and 3; IN rows of each type, and a second one of type iso.
+const WATCHED: [(usize, u8, u8); 6] = [
+    (1, ISO, 0),
+    (3, INTERRUPT, 0),
+    (18, ISO, 0),
+    (19, INTERRUPT, 0),
+    (20, BULK, 0),
+    (21, ISO, 0),
+];
+
+/// A packet with a 16-byte header.
+fn wide_packet(kind: u32, id: u64, body: &[u8]) -> Vec<u8> {
+    let mut bytes = packet(kind, id as u32, body);
+    bytes.splice(12..12, ((id >> 32) as u32).to_le_bytes());
+    bytes
+}
+
+/// A gate with a device that has the rows WATCHED, and with bulk receiving.
+struct Watched {
+    gate: Gate,
+    wide: bool,
+    /// For requests.
+    id: u64,
+}
+
+impl Watched {
+    fn new(wide: bool) -> Watched {
+        let mut watched = Watched {
+            gate: Gate::greeted(if wide { 128 | 32 } else { 128 }),
+            wide,
+            id: 1000,
+        };
+        watched.introduce();
+        watched
+    }
+
+    fn introduce(&mut self) {
+        self.passes(Host, 5, 0, &endpoints(&WATCHED)[12..]);
+        self.passes(Host, 4, 0, &[0; 132]);
+        self.passes(Host, 1, 0, &[0; 8]);
+    }
+
+    fn number(&mut self, from: Side, kind: u32, id: u64, body: &[u8]) -> u8 {
+        let bytes = if self.wide {
+            wide_packet(kind, id, body)
+        } else {
+            packet(kind, id as u32, body)
+        };
+        self.gate.number(from, &bytes)
+    }
+
+    fn passes(&mut self, from: Side, kind: u32, id: u64, body: &[u8]) {
+        assert_eq!(self.number(from, kind, id, body), 0, "kind {kind}, id {id}");
+    }
+
+    /// Sends a request of an id of its own, and tells the id.
+    fn request(&mut self, kind: u32, body: &[u8]) -> u64 {
+        self.id += 1;
+        self.passes(Guest, kind, self.id, body);
+        self.id
+    }
+
+    fn start(&mut self, row: u8) -> u64 {
+        let endpoint = 0x80 | row & 15;
+        match row {
+            19 => self.request(15, &[endpoint]),
+            20 => self.request(25, &[0, 0, 0, 0, 64, 0, 0, 0, endpoint, 1]),
+            _ => self.request(12, &[endpoint, 1, 1]),
+        }
+    }
+
+    fn stop(&mut self, row: u8) -> u64 {
+        let endpoint = 0x80 | row & 15;
+        match row {
+            19 => self.request(16, &[endpoint]),
+            20 => self.request(26, &[0, 0, 0, 0, endpoint]),
+            _ => self.request(13, &[endpoint]),
+        }
+    }
+
+    /// The status to a start or stop, or an unasked one.
+    fn status(&mut self, row: u8, id: u64, status: u8) {
+        let endpoint = 0x80 | row & 15;
+        match row {
+            19 => self.passes(Host, 17, id, &[status, endpoint]),
+            20 => self.passes(Host, 27, id, &[0, 0, 0, 0, endpoint, status]),
+            _ => self.passes(Host, 14, id, &[status, endpoint]),
+        }
+    }
+
+    /// The answer to a stream packet of the host, one byte.
+    fn data(&mut self, row: u8, id: u64) -> u8 {
+        let endpoint = 0x80 | row & 15;
+        match row {
+            19 => self.number(Host, 103, id, &[endpoint, 0, 1, 0, 0x55]),
+            20 => self.number(Host, 104, id, &[0, 0, 0, 0, 1, 0, 0, 0, endpoint, 0, 0x55]),
+            _ => self.number(Host, 102, id, &[endpoint, 0, 1, 0, 0x55]),
+        }
+    }
+
+    fn all(&mut self, row: u8, ids: &[u64]) {
+        for id in ids {
+            assert_eq!(self.data(row, *id), 0, "row {row}, id {id}");
+        }
+    }
+
+    /// Breaks, last gap and expected id of a row.
+    fn row(&self, row: u8) -> (u16, u64, u64) {
+        let seen = self.gate.session.watch()[usize::from(row) - 16];
+        (seen.breaks, seen.last_gap, seen.expected)
+    }
+
+    /// That nothing was seen on the rows other than this one.
+    fn alone(&self, row: u8) {
+        for other in (16..32).filter(|other| *other != row) {
+            assert_eq!(self.row(other), (0, 0, 0), "row {other}");
+        }
+    }
+}
+
+/// Both widths, and a row of each type.
+fn watched_rows() -> impl Iterator<Item = (bool, u8)> {
+    [false, true]
+        .into_iter()
+        .flat_map(|wide| [18, 19, 20].map(|row| (wide, row)))
+}
+
+#[test]
+fn at_first_0_is_expected() {
+    for (wide, row) in watched_rows() {
+        let mut gate = Watched::new(wide);
+        assert_eq!(gate.row(row), (0, 0, 0));
+        gate.start(row);
+        gate.all(row, &[0]);
+        assert_eq!(gate.row(row), (0, 0, 1));
+        gate.all(row, &[1, 2]);
+        assert_eq!(gate.row(row), (0, 0, 3));
+        gate.alone(row);
+    }
+}
+
+#[test]
+fn a_gap_is_counted_from_the_expected_id() {
+    for (wide, row) in watched_rows() {
+        let mut gate = Watched::new(wide);
+        gate.start(row);
+        gate.all(row, &[0, 1, 4]);
+        assert_eq!(gate.row(row), (1, 2, 5));
+        // It is the new base, and the gap stays over good packets.
+        gate.all(row, &[5, 6]);
+        assert_eq!(gate.row(row), (1, 2, 7));
+        gate.all(row, &[17]);
+        assert_eq!(gate.row(row), (2, 10, 18));
+        gate.alone(row);
+        // The first id, too.
+        let mut gate = Watched::new(wide);
+        gate.start(row);
+        gate.all(row, &[3]);
+        assert_eq!(gate.row(row), (1, 3, 4));
+    }
+}
+
+#[test]
+fn a_repeated_id_lies_ahead_by_the_largest_gap() {
+    for (wide, row) in watched_rows() {
+        let largest = if wide {
+            18_446_744_073_709_551_615
+        } else {
+            4_294_967_295
+        };
+        let mut gate = Watched::new(wide);
+        gate.start(row);
+        gate.all(row, &[0, 1, 1]);
+        assert_eq!(gate.row(row), (1, largest, 2));
+        gate.all(row, &[0]);
+        assert_eq!(gate.row(row), (2, largest - 1, 1));
+        gate.all(row, &[1]);
+        assert_eq!(gate.row(row), (2, largest - 1, 2));
+    }
+}
+
+#[test]
+fn an_id_of_32_bits_wraps() {
+    for row in [18, 19, 20] {
+        let mut gate = Watched::new(false);
+        gate.start(row);
+        gate.all(row, &[4_294_967_294]);
+        assert_eq!(gate.row(row), (1, 4_294_967_294, 4_294_967_295));
+        gate.all(row, &[4_294_967_295]);
+        assert_eq!(gate.row(row), (1, 4_294_967_294, 0));
+        gate.all(row, &[0]);
+        assert_eq!(gate.row(row), (1, 4_294_967_294, 1));
+        // A gap over the wrap: 4,294,967,291 to 7.
+        gate.all(row, &[4_294_967_290, 7]);
+        assert_eq!(gate.row(row), (3, 12, 8));
+    }
+}
+
+#[test]
+fn an_id_of_64_bits_wraps() {
+    for row in [18, 19, 20] {
+        let mut gate = Watched::new(true);
+        gate.start(row);
+        // Not at 32 bits.
+        gate.all(row, &[4_294_967_295]);
+        assert_eq!(gate.row(row), (1, 4_294_967_295, 4_294_967_296));
+        gate.all(row, &[4_294_967_296]);
+        assert_eq!(gate.row(row), (1, 4_294_967_295, 4_294_967_297));
+        gate.all(row, &[18_446_744_073_709_551_615]);
+        assert_eq!(gate.row(row), (2, 18_446_744_069_414_584_318, 0));
+        gate.all(row, &[0]);
+        assert_eq!(gate.row(row), (2, 18_446_744_069_414_584_318, 1));
+        // A gap over the wrap: 18,446,744,073,709,551,611 to 7.
+        gate.all(row, &[18_446_744_073_709_551_610, 7]);
+        assert_eq!(gate.row(row), (4, 12, 8));
+        // All 64 bits count: the expected id is 8.
+        gate.all(row, &[4_294_967_304]);
+        assert_eq!(gate.row(row), (5, 4_294_967_296, 4_294_967_305));
+    }
+}
+
+#[test]
+fn a_gap_of_half_the_ids_and_more() {
+    let mut gate = Watched::new(false);
+    gate.start(18);
+    gate.all(18, &[0, 2_147_483_649]);
+    assert_eq!(gate.row(18), (1, 2_147_483_648, 2_147_483_650));
+    gate.all(18, &[2]);
+    assert_eq!(gate.row(18), (2, 2_147_483_648, 3));
+    gate.all(18, &[2_147_483_652]);
+    assert_eq!(gate.row(18), (3, 2_147_483_649, 2_147_483_653));
+    gate.all(18, &[4]);
+    assert_eq!(gate.row(18), (4, 2_147_483_647, 5));
+    let mut gate = Watched::new(true);
+    gate.start(18);
+    gate.all(18, &[0, 2_147_483_649]);
+    assert_eq!(gate.row(18), (1, 2_147_483_648, 2_147_483_650));
+    gate.all(18, &[2]);
+    assert_eq!(gate.row(18), (2, 18_446_744_071_562_067_968, 3));
+    gate.all(18, &[9_223_372_036_854_775_811]);
+    assert_eq!(
+        gate.row(18),
+        (3, 9_223_372_036_854_775_808, 9_223_372_036_854_775_812)
+    );
+    gate.all(18, &[5]);
+    assert_eq!(gate.row(18), (4, 9_223_372_036_854_775_809, 6));
+}
+
+#[test]
+fn a_start_restarts_when_it_passes() {
+    for (wide, row) in watched_rows() {
+        let mut gate = Watched::new(wide);
+        let first = gate.start(row);
+        gate.all(row, &[0, 1, 5]);
+        assert_eq!(gate.row(row), (1, 3, 6));
+        // On an open stream; its count and gap stay.
+        let second = gate.start(row);
+        assert_eq!(gate.row(row), (1, 3, 0));
+        gate.all(row, &[0, 1]);
+        assert_eq!(gate.row(row), (1, 3, 2));
+        // The statuses to them come later and restart nothing.
+        gate.status(row, first, 0);
+        gate.all(row, &[2]);
+        gate.status(row, second, 0);
+        gate.all(row, &[3]);
+        assert_eq!(gate.row(row), (1, 3, 4));
+        // A refused start restarts nothing: 28, 31.
+        gate.start(21);
+        let taken = gate.id;
+        assert_eq!(gate.number(Guest, 12, 7, &[0x83, 1, 1]), 28);
+        assert_eq!(gate.number(Guest, 15, 7, &[0x82]), 28);
+        assert_eq!(gate.number(Guest, 12, taken, &[0x82, 1, 1]), 31);
+        assert_eq!(gate.number(Guest, 15, taken, &[0x83]), 31);
+        let buffered = [0, 0, 0, 0, 64, 0, 0, 0, 0x84, 1];
+        assert_eq!(gate.number(Guest, 25, taken, &buffered), 31);
+        assert_eq!(gate.row(row), (1, 3, 4));
+        gate.alone(row);
+    }
+}
+
+#[test]
+fn a_stall_restarts() {
+    for (wide, row) in watched_rows() {
+        let mut gate = Watched::new(wide);
+        // It answers a start, and closes the stream.
+        let start = gate.start(row);
+        gate.all(row, &[0, 1]);
+        gate.status(row, start, 4);
+        assert_eq!(gate.row(row), (0, 0, 0));
+        // It answers a stop.
+        gate.start(row);
+        gate.all(row, &[2]);
+        assert_eq!(gate.row(row), (1, 2, 3));
+        let stop = gate.stop(row);
+        gate.all(row, &[3]);
+        gate.status(row, stop, 4);
+        assert_eq!(gate.row(row), (1, 2, 0));
+        // Unasked, on a stream that is open and on one that is closed.
+        gate.start(row);
+        gate.all(row, &[0]);
+        gate.status(row, 0, 4);
+        assert_eq!(gate.row(row), (1, 2, 0));
+        gate.status(row, 0, 4);
+        assert_eq!(gate.row(row), (1, 2, 0));
+        gate.alone(row);
+    }
+}
+
+#[test]
+fn a_stall_restarts_a_row_of_another_type() {
+    for (wide, row) in watched_rows() {
+        let endpoint = 0x80 | row & 15;
+        let stalls = [
+            (14, vec![4, endpoint]),
+            (17, vec![4, endpoint]),
+            (27, vec![0, 0, 0, 0, endpoint, 4]),
+        ];
+        for (at, (kind, body)) in stalls.iter().enumerate() {
+            let mut gate = Watched::new(wide);
+            gate.start(row);
+            gate.all(row, &[0, 1]);
+            gate.passes(Host, *kind, 0, body);
+            assert_eq!(gate.row(row), (0, 0, 0));
+            // The stream is closed by its own kind alone.
+            let closed = at == usize::from(row) - 18;
+            assert_eq!(gate.data(row, 1), if closed { 30 } else { 0 });
+            let after = if closed { (0, 0, 0) } else { (1, 1, 2) };
+            assert_eq!(gate.row(row), after);
+        }
+    }
+    // It answers a start whose row has changed its type since.
+    let mut gate = Watched::new(false);
+    let start = gate.start(18);
+    gate.all(18, &[7]);
+    gate.passes(Host, 5, 0, &endpoints(&[(18, INTERRUPT, 0)])[12..]);
+    assert_eq!(gate.row(18), (1, 7, 8));
+    gate.status(18, start, 4);
+    assert_eq!(gate.row(18), (1, 7, 0));
+}
+
+#[test]
+fn other_statuses_restart_nothing() {
+    for (wide, row) in watched_rows() {
+        for status in [0, 1, 2, 3, 5, 6] {
+            let mut gate = Watched::new(wide);
+            let start = gate.start(row);
+            gate.all(row, &[0, 1]);
+            gate.status(row, start, status);
+            assert_eq!(gate.row(row), (0, 0, 2));
+            let stop = gate.stop(row);
+            gate.status(row, stop, status);
+            assert_eq!(gate.row(row), (0, 0, 2));
+        }
+    }
+}
+
+#[test]
+fn a_refused_stall_restarts_nothing() {
+    let mut gate = Watched::new(false);
+    for row in [18, 19, 20] {
+        gate.start(row);
+        gate.all(row, &[0, 1]);
+    }
+    // No such request; a wrong size; a status or an endpoint that isn't allowed; a wrong sender.
+    for (from, kind, id, body, number) in [
+        (Host, 14, 9, &[4, 0x82][..], 33),
+        (Host, 17, 9, &[4, 0x83], 33),
+        (Host, 27, 9, &[0, 0, 0, 0, 0x84, 4], 33),
+        (Host, 14, 0, &[4, 0x82, 0], 23),
+        (Host, 14, 0, &[7, 0x82], 24),
+        (Host, 14, 0, &[4, 0x92], 24),
+        (Guest, 17, 0, &[4, 0x83], 21),
+    ] {
+        assert_eq!(gate.number(from, kind, id, body), number);
+    }
+    for row in [18, 19, 20] {
+        assert_eq!(gate.row(row), (0, 0, 2));
+    }
+}
+
+#[test]
+fn refused_data_is_not_watched() {
+    for (wide, row) in watched_rows() {
+        let mut gate = Watched::new(wide);
+        let endpoint = 0x80 | row & 15;
+        // The stream is closed.
+        assert_eq!(gate.data(row, 7), 30);
+        assert_eq!(gate.row(row), (0, 0, 0));
+        let start = gate.start(row);
+        gate.all(row, &[0, 3]);
+        assert_eq!(gate.row(row), (1, 2, 4));
+        // The row has another type.
+        if row != 18 {
+            assert_eq!(gate.number(Host, 102, 9, &[endpoint, 0, 0, 0]), 28);
+        }
+        if row != 19 {
+            assert_eq!(gate.number(Host, 103, 9, &[endpoint, 0, 0, 0]), 28);
+        }
+        if row != 20 {
+            let body = [0, 0, 0, 0, 0, 0, 0, 0, endpoint, 0];
+            assert_eq!(gate.number(Host, 104, 9, &body), 28);
+        }
+        // A wrong size; a status that isn't allowed; a wrong sender.
+        let (kind, fields): (u32, &[u8]) = match row {
+            18 => (102, &[0x82, 7, 0, 0]),
+            19 => (103, &[0x83, 7, 0, 0]),
+            _ => (104, &[0, 0, 0, 0, 0, 0, 0, 0, 0x84, 7]),
+        };
+        assert_eq!(gate.number(Host, kind, 9, &[fields, &[1]].concat()), 23);
+        assert_eq!(gate.number(Host, kind, 9, fields), 24);
+        let sender = if kind == 104 { 21 } else { 24 };
+        assert_eq!(gate.number(Guest, kind, 9, fields), sender);
+        assert_eq!(gate.row(row), (1, 2, 4));
+        gate.all(row, &[4]);
+        // The stream is closed again.
+        gate.status(row, start, 3);
+        assert_eq!(gate.data(row, 9), 30);
+        assert_eq!(gate.row(row), (1, 2, 5));
+        gate.alone(row);
+    }
+}
+
+#[test]
+fn a_disconnect_keeps_counts_and_gaps() {
+    for wide in [false, true] {
+        let mut gate = Watched::new(wide);
+        for (row, id) in [(18, 5), (19, 6), (20, 7)] {
+            gate.start(row);
+            gate.all(row, &[id]);
+        }
+        gate.passes(Host, 2, 0, &[]);
+        for (row, gap) in [(18, 5), (19, 6), (20, 7)] {
+            assert_eq!(gate.row(row), (1, gap, 0));
+        }
+        // No device.
+        assert_eq!(gate.data(18, 3), 25);
+        gate.introduce();
+        assert_eq!(gate.data(18, 3), 30);
+        assert_eq!(gate.row(18), (1, 5, 0));
+        gate.start(18);
+        gate.all(18, &[0, 9]);
+        assert_eq!(gate.row(18), (2, 8, 10));
+        assert_eq!(gate.row(19), (1, 6, 0));
+        // A refused one sets nothing back.
+        assert_eq!(gate.number(Host, 2, 1, &[]), 24);
+        assert_eq!(gate.row(18), (2, 8, 10));
+    }
+}
+
+#[test]
+fn a_count_stops_at_65535_and_the_gap_moves_on() {
+    let mut gate = Watched::new(false);
+    gate.start(18);
+    for _ in 0..65_534 {
+        gate.all(18, &[1]);
+    }
+    assert_eq!(gate.row(18), (65_534, 4_294_967_295, 2));
+    gate.all(18, &[4]);
+    assert_eq!(gate.row(18), (65_535, 2, 5));
+    gate.all(18, &[8]);
+    assert_eq!(gate.row(18), (65_535, 3, 9));
+    gate.all(18, &[9, 8]);
+    assert_eq!(gate.row(18), (65_535, 4_294_967_294, 9));
+    gate.passes(Host, 2, 0, &[]);
+    gate.introduce();
+    gate.start(18);
+    gate.all(18, &[6]);
+    assert_eq!(gate.row(18), (65_535, 6, 7));
+    gate.alone(18);
+}
+
+#[test]
+fn rows_are_watched_each_by_itself() {
+    let mut gate = Watched::new(false);
+    for row in [18, 19, 20, 21] {
+        gate.start(row);
+    }
+    gate.all(18, &[0, 1]);
+    gate.all(21, &[0, 3]);
+    gate.all(18, &[2]);
+    gate.all(19, &[5]);
+    gate.all(20, &[0, 0]);
+    gate.start(21);
+    assert_eq!(gate.row(18), (0, 0, 3));
+    assert_eq!(gate.row(19), (1, 5, 6));
+    assert_eq!(gate.row(20), (1, 4_294_967_295, 1));
+    assert_eq!(gate.row(21), (1, 2, 0));
+    // The last row.
+    gate.passes(Host, 5, 0, &endpoints(&[(31, ISO, 0)])[12..]);
+    gate.start(31);
+    gate.all(31, &[1]);
+    assert_eq!(gate.row(31), (1, 1, 2));
+}
+
+#[test]
+fn out_rows_and_the_guest_are_not_watched() {
+    // Rows 1 and 3 are OUT; 17 and 19 have their numbers.
+    let mut gate = Watched::new(false);
+    gate.start(19);
+    gate.all(19, &[0, 2]);
+    gate.passes(Guest, 12, 1, &[1, 1, 1]);
+    gate.passes(Guest, 102, 9, &[1, 0, 0, 0]);
+    gate.passes(Host, 14, 1, &[0, 1]);
+    gate.passes(Guest, 102, 8, &[1, 0, 1, 0, 0x55]);
+    gate.passes(Host, 14, 0, &[4, 1]);
+    gate.passes(Host, 14, 0, &[4, 3]);
+    gate.passes(Host, 17, 0, &[4, 3]);
+    assert_eq!(gate.row(19), (1, 1, 3));
+    // The host's 103 OUT is a reply.
+    gate.passes(Guest, 103, 7, &[3, 0, 2, 0, 0x55, 0x66]);
+    gate.passes(Host, 103, 7, &[3, 0, 2, 0]);
+    assert_eq!(gate.row(19), (1, 1, 3));
+    // So are its 100 and 101, and they aren't watched on an IN row either.
+    gate.passes(Guest, 100, 8, &[0x80, 6, 0x80, 0, 0, 1, 0, 0, 0, 0]);
+    gate.passes(Host, 100, 8, &[0x80, 6, 0x80, 0, 0, 1, 0, 0, 0, 0]);
+    gate.passes(Guest, 101, 8, &[0x84, 0, 0, 0, 0, 0, 0, 0]);
+    gate.passes(Host, 101, 8, &[0x84, 0, 0, 0, 0, 0, 0, 0]);
+    gate.alone(19);
+}
+
+#[test]
+fn tables_restart_nothing() {
+    let mut gate = Watched::new(false);
+    gate.start(18);
+    gate.all(18, &[0, 3]);
+    gate.passes(Host, 5, 0, &endpoints(&WATCHED)[12..]);
+    gate.passes(Host, 4, 0, &[0; 132]);
+    gate.all(18, &[4]);
+    // The row changes its type, and back: its stream is closed.
+    gate.passes(Host, 5, 0, &endpoints(&[(18, BULK, 0)])[12..]);
+    assert_eq!(gate.row(18), (1, 2, 5));
+    gate.passes(Host, 5, 0, &endpoints(&WATCHED)[12..]);
+    assert_eq!(gate.data(18, 9), 30);
+    assert_eq!(gate.row(18), (1, 2, 5));
+    gate.start(18);
+    gate.all(18, &[0, 1]);
+    assert_eq!(gate.row(18), (1, 2, 2));
+}
+
+#[test]
+fn reset_settings_and_stops_restart_nothing() {
+    let mut gate = Watched::new(false);
+    for row in [18, 19, 20] {
+        gate.start(row);
+        gate.all(row, &[0, 3]);
+    }
+    let kept = |gate: &Watched| {
+        for row in [18, 19, 20] {
+            assert_eq!(gate.row(row), (1, 2, 4));
+        }
+    };
+    for row in [18, 19, 20] {
+        gate.stop(row);
+    }
+    kept(&gate);
+    // In 11 and 8 a 4 is no stall of a stream; with 0 all streams close.
+    for status in [4, 0] {
+        let setting = gate.request(9, &[0, 1]);
+        gate.passes(Host, 11, setting, &[status, 0, 1]);
+        kept(&gate);
+        let configuration = gate.request(6, &[1]);
+        gate.passes(Host, 8, configuration, &[status, 1]);
+        kept(&gate);
+    }
+    assert_eq!(gate.data(18, 9), 30);
+    gate.request(21, &[]);
+    kept(&gate);
+    gate.request(3, &[]);
+    kept(&gate);
+}
+
 // ---- report ----
 
 #[test]

@@ -69,6 +69,12 @@ enum-known-c-4 c = search needs
 rule-stream-requires : tie.Need-rule-stream-requires
 rule-stream-requires c κs = search needs
 
+enum-known-c-5 : tie.Need-enum-known-c-5
+enum-known-c-5 c = search needs
+
+rule-stream-requires-2 : tie.Need-rule-stream-requires-2
+rule-stream-requires-2 c κs = search needs
+
 returns : tie.Need-returns
 unfolding ruled
 returns c = let a = c .before .before .before .args in λ d t p s l. by-case (a .h) d t (a .c) _ _ (c .before .c .given .1) refl
@@ -174,6 +180,19 @@ returns-17 c =
     let a = c .before .before .before .before .args in
     λ d t p s l. by-case (a .h) d t (a .c) _ _ (c .before .before .c4 .given .1) (missed (a .h .present) _ (Denied 25) (c .if5 .left))
 
+returns-18 : tie.Need-returns-18
+unfolding ruled
+returns-18 c =
+    let a = c .before .before .before .before .before .args in
+    λ d t p s l.
+    by-case (a .h) d t (a .c) _ _ (c .before .before .before .c5 .given .1) (c .rule-stream2 .ensures d t p s (l .used) (l .live) (l .kinds) ∙ held (a .h .present) _ (Denied 25) (c .before .if6 .taken))
+
+returns-19 : tie.Need-returns-19
+unfolding ruled
+returns-19 c =
+    let a = c .before .before .before .before .args in
+    λ d t p s l. by-case (a .h) d t (a .c) _ _ (c .before .before .c5 .given .1) (missed (a .h .present) _ (Denied 25) (c .if6 .left))
+
 pub rule-spec : {M : Type 1} → statement M
 rule-spec =
     tie.close
@@ -198,6 +217,8 @@ rule-spec =
     rule-reply-requires
     enum-known-c-4
     rule-stream-requires
+    enum-known-c-5
+    rule-stream-requires-2
     returns
     returns-2
     returns-3
@@ -214,4 +235,6 @@ rule-spec =
     returns-14
     returns-15
     returns-16
-    returns-17)
+    returns-17
+    returns-18
+    returns-19)

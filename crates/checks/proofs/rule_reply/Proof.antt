@@ -15,6 +15,9 @@ enum-known-f c = search needs
 kind-at-requires : tie.Need-kind-at-requires
 kind-at-requires c κs = search needs
 
+move-by-requires : tie.Need-move-by-requires
+move-by-requires c κs = search needs
+
 scope-to-requires : tie.Need-scope-to-requires
 scope-to-requires c κs = search needs
 
@@ -26,7 +29,8 @@ returns c =
     let a = n .before .before .before .before .before .args in
     λ t l.
     reply-pending t (a .r) (a .typed) (a .unasked) _ (n .find-id .ensures t (l .used) (l .live) (l .ids))
-    _ (f .f .given .1) _ (k .kind-at .ensures ∙ rw (l .kinds)) (c .before .before .before .if1 .taken) _ (c .scope-to .ensures)
+    _ (f .f .given .1) _ (k .kind-at .ensures ∙ rw (l .kinds)) (c .before .before .before .if1 .taken)
+    _ (c .before .move-by .ensures) _ (c .scope-to .ensures)
 
 rule-unmatched-requires : tie.Need-rule-unmatched-requires
 rule-unmatched-requires c κs = search needs
@@ -61,6 +65,7 @@ rule-reply-spec =
     find-id-requires
     enum-known-f
     kind-at-requires
+    move-by-requires
     scope-to-requires
     returns
     rule-unmatched-requires

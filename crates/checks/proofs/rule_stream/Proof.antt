@@ -24,7 +24,7 @@ type-at-requires c κs = search needs
 returns : tie.Need-returns
 returns c =
     let a = c .before .before .args in
-    λ d t p s u v k. streamed-mistyped d t (a .e) (a .ty) (a .transfer) _ (c .before .type-at .ensures d p) (c .if1 .taken)
+    λ d t p s u v k. streamed-mistyped d t (a .e) (a .ty) (a .transfer) (a .c) _ (c .before .type-at .ensures d p) (c .if1 .taken)
 
 is-settling-requires : tie.Need-is-settling-requires
 is-settling-requires c κs = search needs
@@ -33,7 +33,7 @@ returns-2 : tie.Need-returns-2
 returns-2 c =
     let a = c .before .before .before .before .before .args in
     λ d t p s u v k.
-    streamed-settling d t (a .e) (a .ty) (a .transfer)
+    streamed-settling d t (a .e) (a .ty) (a .transfer) (a .c)
     _ (c .before .before .before .before .type-at .ensures d p) (c .before .before .before .if1 .left) (c .before .before .if2 .taken)
     _ (c .before .is-settling .ensures t u v k) (c .if3 .taken)
 
@@ -45,7 +45,7 @@ returns-3 c =
     let a = c .before .before .before .before .before .args in
     λ d t p s u v k.
     held _ _ _ (c .if4 .taken)
-    ∙ streamed-by d t (a .e) (a .ty) (a .transfer)
+    ∙ streamed-by d t (a .e) (a .ty) (a .transfer) (a .c)
     _ (c .before .before .before .before .type-at .ensures d p) (c .before .before .before .if1 .left) (calm (c .before .before) t u v k)
     _ (c .before .is-streaming .ensures d s)
 
@@ -54,7 +54,7 @@ returns-4 c =
     let a = c .before .before .before .before .before .args in
     λ d t p s u v k.
     missed _ _ _ (c .if4 .left)
-    ∙ streamed-by d t (a .e) (a .ty) (a .transfer)
+    ∙ streamed-by d t (a .e) (a .ty) (a .transfer) (a .c)
     _ (c .before .before .before .before .type-at .ensures d p) (c .before .before .before .if1 .left) (calm (c .before .before) t u v k)
     _ (c .before .is-streaming .ensures d s)
 

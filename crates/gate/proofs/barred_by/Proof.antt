@@ -18,13 +18,13 @@ returns-2 : tie.Need-returns-2
 returns-2 c =
     λ s from hold eh et eu el ei ell er ew.
     rw (le-ltb _ _ (c .before .before .if1 .left), c .if2 .taken) at
-    (barred-by-tests s from eh (c .before .is-unfit .ensures (s .rows) (s .requests) et eu el ei) hold ell er ew)
+    (barred-by-tests s from eh (c .before .is-unfit .ensures s eh et eu el ei) hold ell er ew)
 
 returns-3 : tie.Need-returns-3
 returns-3 c =
     λ s from hold eh et eu el ei ell er ew.
     rw (le-ltb _ _ (c .before .before .before .if1 .left), c .before .if2 .left, c .if3 .taken) at
-    (barred-by-tests s from eh (c .before .before .is-unfit .ensures (s .rows) (s .requests) et eu el ei) hold ell er ew)
+    (barred-by-tests s from eh (c .before .before .is-unfit .ensures s eh et eu el ei) hold ell er ew)
 
 is-waiting-requires : tie.Need-is-waiting-requires
 is-waiting-requires c κs = search needs
@@ -34,14 +34,14 @@ returns-4 c =
     let b = c .before .before .before .before in
     λ s from hold eh et eu el ei ell er ew.
     rw (le-ltb _ _ (b .before .if1 .left), c .before .before .before .if2 .left, c .before .before .if3 .left, ← c .before .is-waiting .ensures, c .if4 .taken) at
-    (barred-by-tests s from eh (b .is-unfit .ensures (s .rows) (s .requests) et eu el ei) hold ell er ew)
+    (barred-by-tests s from eh (b .is-unfit .ensures s eh et eu el ei) hold ell er ew)
 
 returns-5 : tie.Need-returns-5
 returns-5 c =
     let b = c .before .before .before .before in
     λ s from hold eh et eu el ei ell er ew.
     rw (le-ltb _ _ (b .before .if1 .left), c .before .before .before .if2 .left, c .before .before .if3 .left, ← c .before .is-waiting .ensures, c .if4 .left) at
-    (barred-by-tests s from eh (b .is-unfit .ensures (s .rows) (s .requests) et eu el ei) hold ell er ew)
+    (barred-by-tests s from eh (b .is-unfit .ensures s eh et eu el ei) hold ell er ew)
 
 pub barred-by-spec : {M : Type 1} → statement M
 barred-by-spec =

@@ -8,25 +8,65 @@ use lib.ListN.{getD, set, List·getD-eq-default}
 use denote.Ref.{now}
 use Rattle.scan.specs.Loop.{long-of}
 use Rattle.requests.specs.declared.Slot.{Slot}
-use Rattle.requests.specs.Requests.{freeSlot}
+use Rattle.requests.specs.Requests.{freeSlot, slotOf}
+use Rattle.watch.proofs.Noted.{Long}
+use Rattle.checks.specs.Ruled.{awaited}
+use Rattle.session.specs.Edit.{placedIn}
 use Rattle.session.proofs.Stored.{Sized, placed, unplaced, stored-is}
+use Rattle.gate.specs.declared.Decided.{Decided}
+use Rattle.gate.specs.Decide.{concluded, Decides}
 use Rattle.gate.proofs.Settled.{settled-is, made, offer-is}
 use borrow.Author.Needs.{needs}
 use Rattle.gate.proofs.offer.Statement.{statement}
 use Rattle.gate.proofs.offer.Tie as tie
 
--- the session that came has an element for each row and place
+-- ---- the way back from each place
+
+abbrev start : tie.After-decide → tie.Start
+start c = c .before .before .before .before .before .before .before .before .before .before .before .before .before .before .before .before .before .before .before .before .before .before .before
+
+abbrev decided : tie.After-edit-of → tie.After-decide
+decided c = c .before .before .before .before .before .before .before .before .before .before
+
+-- ---- the session that came
+
+-- it has an element for each row and place
 sized : (c : tie.Start) → Sized (c .args .s .rows) (c .args .s .requests)
 sized c = record { streams = search needs; live = search needs; kinds = search needs; ids = search needs; slots = search (needs, long-of) }
 
+-- and for each IN row
+long : (c : tie.Start) → Long (c .args .s .watch)
+long c = record { expected = search needs; gaps = search needs; breaks = search needs }
+
+-- ---- the decision
+
+decides : (c : tie.After-decide) → Decides (start c .args .from) (start c .args .s) (c .decide .result) (now (start c .args .hold)) (now (start c .args .piece)) (c .decide .last .1 .1 .1 .1 .1 .1 .1 .1 .0)
+decides c = c .decide .ensures (start c .args .s) (record { head = refl; types-lent = refl; streams-lent = refl; used-lent = refl; live-lent = refl; kinds-lent = refl; ids-lent = refl })
+
 -- the slot that is handed in: a free one past the last
-slot-is : (c : tie.Joined1) → c .if1 .slot ≡ getD (c .before .before .before .before .before .before .before .before .before .before .before .before .before .before .before .before .before .before .before .before .before .before .before .args .s .requests .slots) (c .before .wanted .result) freeSlot
+slot-is : (c : tie.Joined1) → c .if1 .slot ≡ getD (start (c .before .before .before .before) .args .s .requests .slots) (c .before .wanted .result) freeSlot
 slot-is c =
-    let a = c .before .before .before .before .before .before .before .before .before .before .before .before .before .before .before .before .before .before .before .before .before .before .before in
+    let a = start (c .before .before .before .before) in
     ⊎-elim
     (λ w. w .2)
     (λ w. w .2 ∙ w .1 .ensures ∙ sym (List·getD-eq-default (a .args .s .requests .slots) freeSlot {n = c .before .wanted .result} (omega (arith, w .0 .left, sized a .slots))))
     (c .if1 .came)
+
+settled : (c : tie.After-edit-of)
+    → c .before .before .before .before .before .settle .result ≡ concluded (decided c .decide .result) (getD (start (decided c) .args .s .requests .slots) (awaited (decided c .decide .result .ruling)) freeSlot)
+settled c = settled-is (start (decided c) .args .s) (decided c .decide .result) (c .before .before .before .before .before .before .before .wanted .ensures) (slot-is (c .before .before .before .before .before .before)) (c .before .before .before .before .before .settle .ensures)
+
+-- the slots with that of the edit's place stored
+slots-are : (c : tie.Joined3) → c .if3 .slots ≡ placedIn (start (decided (c .before .before .before .before .before .before .before)) .args .s .requests .slots) (c .before .before .before .before .before .before .before .edit-of .result) (slotOf (c .before .before .before .before .before .before .before .edit-of .result .request))
+slots-are c =
+    let slots = start (decided (c .before .before .before .before .before .before .before)) .args .s .requests .slots in
+    let edit = c .before .before .before .before .before .before .before .edit-of .result in
+    ⊎-elim
+    (λ w. w .3 ∙ ap (λ (y : Slot). set slots (edit .place) y) (w .2 .ensures) ∙ placed slots edit _ (w .0 .taken))
+    (λ w. w .1 ∙ unplaced slots edit _ (w .0 .left))
+    (c .if3 .came)
+
+-- ---- what each statement needs
 
 decide-requires : tie.Need-decide-requires
 decide-requires c κs = search needs
@@ -65,17 +105,14 @@ apply-requires : tie.Need-apply-requires
 apply-requires c κs = search needs
 
 same-length : tie.Need-same-length
-same-length c = c .before .before .before .before .before .before .before .before .before .before .before .before .before .before .before .decide .kept .1 .1 .1 .1 .1 .1 .1 .1 .0
+same-length c = decided (c .before .before .before .before .before) .decide .kept .1 .1 .1 .1 .1 .1 .1 .1 .0
 
 returns : tie.Need-returns
 returns c =
-    let k = c .before .before .before .before .before .before .before .before .before .before .before .before .before .before .before in
-    let a = k .before .before .before .before .before .before .before .before .before .before .before .before .before .before .before .before .before .before .before .args in
-    let d = k .decide .result in
-    let m = k .decide .ensures (a .s) (record { head = refl; types-lent = refl; streams-lent = refl; used-lent = refl; live-lent = refl; kinds-lent = refl; ids-lent = refl }) in
-    let j = c .before .before .before .before .before .before .before .before .before .before .before in
-    let e = settled-is (a .s) d (j .before .wanted .ensures) (slot-is j) (c .before .before .before .before .before .before .before .before .before .before .settle .ensures) in
-    offer-is (a .from) (a .s) (now (a .hold)) (now (a .piece)) _ d m e (c .before .before .before .before .before .before .before .before .hold-to .ensures) (c .before .before .before .before .before .before .before .change-of .ensures) (c .before .before .body-of .ensures) (c .before .rows-handed .ensures) (c .apply .ensures)
+    let e = c .before .before .before .before .before in
+    let k = decided e in
+    let a = start k .args in
+    offer-is (a .from) (a .s) (now (a .hold)) (now (a .piece)) _ (k .decide .result) (decides k) (settled e) (e .before .before .before .hold-to .ensures) (e .before .before .change-of .ensures) (c .before .before .body-of .ensures) (c .before .rows-handed .ensures) (c .apply .ensures)
 
 store-requires : tie.Need-store-requires
 store-requires c κs = search needs
@@ -89,35 +126,26 @@ mul-slots c = search needs
 array-set-from-slots : tie.Need-array-set-from-slots
 array-set-from-slots c = search needs
 
+has-wide-ids-requires : tie.Need-has-wide-ids-requires
+has-wide-ids-requires c κs = search needs
+
+note-requires : tie.Need-note-requires
+note-requires c κs = search needs
+
 same-length-2 : tie.Need-same-length-2
-same-length-2 c = c .before .before .before .before .before .before .before .before .before .before .before .before .before .before .before .before .before .before .before .decide .kept .1 .1 .1 .1 .1 .1 .1 .1 .0
+same-length-2 c = decided (c .before .before .before .before .before .before .before .before .before .before .before .before) .decide .kept .1 .1 .1 .1 .1 .1 .1 .1 .0
 
 returns-2 : tie.Need-returns-2
 returns-2 c =
-    let k = c .before .before .before .before .before .before .before .before .before .before .before .before .before .before .before .before .before .before .before in
-    let a = k .before .before .before .before .before .before .before .before .before .before .before .before .before .before .before .before .before .before .before .args in
-    let d = k .decide .result in
-    let m = k .decide .ensures (a .s) (record { head = refl; types-lent = refl; streams-lent = refl; used-lent = refl; live-lent = refl; kinds-lent = refl; ids-lent = refl }) in
-    let j = c .before .before .before .before .before .before .before .before .before .before .before .before .before .before .before in
-    let e = settled-is (a .s) d (j .before .wanted .ensures) (slot-is j) (c .before .before .before .before .before .before .before .before .before .before .before .before .before .before .settle .ensures) in
-    let edit = c .before .before .before .before .before .before .before .before .before .edit-of in
-    let x = stored-is (record { head = c .before .before .before .before .before .before .before .before .before .before .before .before .hold-to .result; rows = a .s .rows; requests = a .s .requests }) (sized (k .before .before .before .before .before .before .before .before .before .before .before .before .before .before .before .before .before .before .before)) (edit .result) (c .before .before .before .store .ensures) (ap (λ (y : Slot). set (a .s .requests .slots) (edit .result .place) y) (c .slot-for .ensures) ∙ placed (a .s .requests .slots) (edit .result) _ (c .before .before .if3 .taken)) (c .before .before .before .before .before .before .before .before .before .before .before .change-of .result) (edit .ensures (a .s .rows) refl) (c .before .before .before .before .before .before .before .before .if2 .left) (a .from) in
-    made (a .from) (a .s) (now (a .hold)) (now (a .piece)) _ d m e (c .before .before .before .before .before .before .before .before .before .before .before .before .hold-to .ensures) (c .before .before .before .before .before .before .before .before .before .before .before .change-of .ensures) (x _)
-
-same-length-3 : tie.Need-same-length-3
-same-length-3 c = c .before .before .before .before .before .before .before .before .before .before .before .before .before .before .before .before .before .decide .kept .1 .1 .1 .1 .1 .1 .1 .1 .0
-
-returns-3 : tie.Need-returns-3
-returns-3 c =
-    let k = c .before .before .before .before .before .before .before .before .before .before .before .before .before .before .before .before .before in
-    let a = k .before .before .before .before .before .before .before .before .before .before .before .before .before .before .before .before .before .before .before .args in
-    let d = k .decide .result in
-    let m = k .decide .ensures (a .s) (record { head = refl; types-lent = refl; streams-lent = refl; used-lent = refl; live-lent = refl; kinds-lent = refl; ids-lent = refl }) in
-    let j = c .before .before .before .before .before .before .before .before .before .before .before .before .before in
-    let e = settled-is (a .s) d (j .before .wanted .ensures) (slot-is j) (c .before .before .before .before .before .before .before .before .before .before .before .before .settle .ensures) in
-    let edit = c .before .before .before .before .before .before .before .edit-of in
-    let x = stored-is (record { head = c .before .before .before .before .before .before .before .before .before .before .hold-to .result; rows = a .s .rows; requests = a .s .requests }) (sized (k .before .before .before .before .before .before .before .before .before .before .before .before .before .before .before .before .before .before .before)) (edit .result) (c .before .store .ensures) (unplaced (a .s .requests .slots) (edit .result) _ (c .if3 .left)) (c .before .before .before .before .before .before .before .before .before .change-of .result) (edit .ensures (a .s .rows) refl) (c .before .before .before .before .before .before .if2 .left) (a .from) in
-    made (a .from) (a .s) (now (a .hold)) (now (a .piece)) _ d m e (c .before .before .before .before .before .before .before .before .before .before .hold-to .ensures) (c .before .before .before .before .before .before .before .before .before .change-of .ensures) (x _)
+    let e = c .before .before .before .before .before .before .before .before .before .before .before .before in
+    let k = decided e in
+    let a = start k .args in
+    let head = e .before .before .before .hold-to in
+    let change = e .before .before .change-of in
+    let edit = e .edit-of in
+    let stored =
+    stored-is (record { head = head .result; rows = a .s .rows; requests = a .s .requests; watch = a .s .watch }) (sized (start k)) (edit .result) (c .before .before .before .before .before .before .store .ensures) (slots-are (c .before .before .before .before .before)) (change .result) (edit .ensures (a .s .rows) refl) (c .before .before .before .before .before .before .before .before .before .before .before .if2 .left) (long (start k)) (rw (c .before .before .before .before .has-wide-ids .ensures) at (c .note .ensures)) (a .from) in
+    made (a .from) (a .s) (now (a .hold)) (now (a .piece)) _ (k .decide .result) (decides k) (settled e) (head .ensures) (change .ensures) (stored _)
 
 pub offer-spec : {M : Type 1} → statement M
 offer-spec =
@@ -141,7 +169,7 @@ offer-spec =
     slot-for-requires
     mul-slots
     array-set-from-slots
+    has-wide-ids-requires
+    note-requires
     same-length-2
-    returns-2
-    same-length-3
-    returns-3)
+    returns-2)

@@ -13,13 +13,13 @@ is-unfit-requires c κs = search needs
 returns : tie.Need-returns
 returns c =
     λ s eh et eu el ei.
-    rw (c .if1 .taken) at (shut-by-tests s (c .before .before .args .from) eh (c .before .is-unfit .ensures (s .rows) (s .requests) et eu el ei) (c .before .before .args .hello) refl)
+    rw (c .if1 .taken) at (shut-by-tests s (c .before .before .args .from) eh (c .before .is-unfit .ensures s eh et eu el ei) (c .before .before .args .hello) refl)
 
 returns-2 : tie.Need-returns-2
 returns-2 c =
     λ s eh et eu el ei.
     rw (c .before .if1 .left, c .if2 .taken) at
-    (shut-by-tests s (c .before .before .before .args .from) eh (c .before .before .is-unfit .ensures (s .rows) (s .requests) et eu el ei) (c .before .before .before .args .hello) refl)
+    (shut-by-tests s (c .before .before .before .args .from) eh (c .before .before .is-unfit .ensures s eh et eu el ei) (c .before .before .before .args .hello) refl)
 
 link-to-requires : tie.Need-link-to-requires
 link-to-requires c κs = search needs
@@ -33,7 +33,7 @@ returns-3 c =
     let w = c .before .is-waiting .ensures ∙ ap isWaiting (c .before .before .link-to .ensures) in
     λ s eh et eu el ei.
     rw (c .before .before .before .before .if1 .left, c .before .before .before .if2 .left, c .if3 .taken) at
-    (shut-by-tests s (b .before .args .from) eh (b .is-unfit .ensures (s .rows) (s .requests) et eu el ei) (b .before .args .hello) w)
+    (shut-by-tests s (b .before .args .from) eh (b .is-unfit .ensures s eh et eu el ei) (b .before .args .hello) w)
 
 returns-4 : tie.Need-returns-4
 returns-4 c =
@@ -41,7 +41,7 @@ returns-4 c =
     let w = c .before .is-waiting .ensures ∙ ap isWaiting (c .before .before .link-to .ensures) in
     λ s eh et eu el ei.
     rw (c .before .before .before .before .if1 .left, c .before .before .before .if2 .left, c .if3 .left) at
-    (shut-by-tests s (b .before .args .from) eh (b .is-unfit .ensures (s .rows) (s .requests) et eu el ei) (b .before .args .hello) w)
+    (shut-by-tests s (b .before .args .from) eh (b .is-unfit .ensures s eh et eu el ei) (b .before .args .hello) w)
 
 pub shut-by-spec : {M : Type 1} → statement M
 shut-by-spec =

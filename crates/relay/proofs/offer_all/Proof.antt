@@ -4,6 +4,7 @@ use mathlib.Core.Path.{_≡_, refl, _∙_}
 use native.Mathlib.Omega.{arith}
 use borrow.Author.Needs.{needs}
 use borrow.Rule.Slice.PartAt.{part-to-end}
+use Prim.Native.Nat.{_<_, _^_}
 use lib.ListN.{length}
 use Rattle.relay.proofs.Pieces.{Offering, starts, turnsLeft, few, goes-on, less, all-offered}
 use Rattle.relay.proofs.offer_all.Statement.{statement}
@@ -30,12 +31,16 @@ part-piece-end c = search needs
 offer-requires : tie.Need-offer-requires Inv-loop μ-loop
 offer-requires c κs = search needs
 
+-- the length of what is offered is a number
+bytes-number : (c : tie.After-shared-slice-known Inv-loop μ-loop) → length (c .before .before .args .bytes .now) < 2 ^ 64
+bytes-number c = omega arith
+
 add-at : tie.Need-add-at Inv-loop μ-loop
 add-at c =
     let d = c .before .before .before .before .before in
     let l = d .before .before .before .before in
     let e = part-to-end (l .before .before .before .args .bytes .now) (l .loop .at) in
-    omega (arith, few (l .loop .inv .0) (d .offer .result) e (d .offer .ensures))
+    omega (arith, bytes-number (l .before), few (l .loop .inv .0) (d .offer .result) e (d .offer .ensures))
 
 bytes-of-requires : tie.Need-bytes-of-requires Inv-loop μ-loop
 bytes-of-requires c κs = search needs

@@ -1,4 +1,4 @@
--- `session::fresh_session` meets its contract: its parts are those that `start_head`, `start_rows` and `fresh` ensure.
+-- `session::fresh_session` meets its contract: its parts are those that `start_head`, `start_rows`, `fresh` and `start_watch` ensure.
 -- Assumes nothing.
 use borrow.Author.Needs.{needs}
 use Rattle.session.specs.Session.{freshSession}
@@ -14,10 +14,20 @@ start-rows-requires c κs = search needs
 fresh-requires : tie.Need-fresh-requires
 fresh-requires c κs = search needs
 
+start-watch-requires : tie.Need-start-watch-requires
+start-watch-requires c κs = search needs
+
 returns : tie.Need-returns
 unfolding freshSession
-returns c = λ j. record { head = c .before .before .start-head .ensures j; rows = c .before .start-rows .ensures j; requests = c .fresh .ensures j }
+returns c =
+    λ j.
+    record {
+      head = c .before .before .before .start-head .ensures j;
+      rows = c .before .before .start-rows .ensures j;
+      requests = c .before .fresh .ensures j;
+      watch = c .start-watch .ensures j;
+    }
 
 pub fresh-session-spec : {M : Type 1} → statement M
 fresh-session-spec =
-    tie.close (tie.spec start-head-requires start-rows-requires fresh-requires returns)
+    tie.close (tie.spec start-head-requires start-rows-requires fresh-requires start-watch-requires returns)

@@ -58,6 +58,9 @@ enum-told-9 c = search needs
 enum-told-10 : tie.Need-enum-told-10
 enum-told-10 c = search needs
 
+enum-told-11 : tie.Need-enum-told-11
+enum-told-11 c = search needs
+
 returns : tie.Need-returns
 returns c = rw (c .enum-told .given .1)
 
@@ -91,6 +94,9 @@ returns-10 c = rw (c .enum-told9 .given .1)
 returns-11 : tie.Need-returns-11
 returns-11 c = rw (c .enum-told10 .given .1)
 
+returns-12 : tie.Need-returns-12
+returns-12 c = rw (c .enum-told11 .given .1)
+
 pub head-after-spec : {M : Type 1} → statement M
 head-after-spec =
     tie.close
@@ -113,6 +119,7 @@ head-after-spec =
     enum-told-8
     enum-told-9
     enum-told-10
+    enum-told-11
     returns
     returns-2
     returns-3
@@ -123,4 +130,5 @@ head-after-spec =
     returns-8
     returns-9
     returns-10
-    returns-11)
+    returns-11
+    returns-12)

@@ -20,12 +20,12 @@ has-control-rows-requires c κs = search needs
 
 returns : tie.Need-returns
 unfolding unfit
-returns c = λ d t p u v w.
+returns c = λ s h p u v w.
     let guest = c .before .before .before .is-held-bad .ensures in
     let host = c .before .before .is-held-bad2 .ensures in
-    let ids = c .before .ids-differ .ensures t u v w in
-    let control = c .has-control-rows .ensures d p in
-    λ j. guest j || host j || not (ids j) || not (control j)
+    let ids = c .before .ids-differ .ensures (s .requests) u v w in
+    let control = c .has-control-rows .ensures (s .rows) p in
+    rw h (λ j. guest j || host j || not (ids j) || not (control j))
 
 pub is-unfit-spec : {M : Type 1} → statement M
 is-unfit-spec =

@@ -52,6 +52,9 @@ enum-known-c-3 c = search needs
 release-at-requires : tie.Need-release-at-requires
 release-at-requires c κs = search needs
 
+enum-told-9 : tie.Need-enum-told-9
+enum-told-9 c = search needs
+
 returns : tie.Need-returns
 returns c = search needs
 
@@ -85,6 +88,9 @@ returns-10 c = rw (c .before .before .c2 .given .1) (c .take2 .ensures)
 returns-11 : tie.Need-returns-11
 returns-11 c = rw (c .before .before .c3 .given .1) (c .release-at .ensures)
 
+returns-12 : tie.Need-returns-12
+returns-12 c = search needs
+
 pub requests-after-spec : {M : Type 1} → statement M
 requests-after-spec =
     tie.close
@@ -105,6 +111,7 @@ requests-after-spec =
     take-requires-2
     enum-known-c-3
     release-at-requires
+    enum-told-9
     returns
     returns-2
     returns-3
@@ -115,4 +122,5 @@ requests-after-spec =
     returns-8
     returns-9
     returns-10
-    returns-11)
+    returns-11
+    returns-12)

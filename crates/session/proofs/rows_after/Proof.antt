@@ -49,11 +49,17 @@ stream-by-requires c κs = search needs
 enum-known-c-2 : tie.Need-enum-known-c-2
 enum-known-c-2 c = search needs
 
+is-opening-requires : tie.Need-is-opening-requires
+is-opening-requires c κs = search needs
+
 stream-by-requires-2 : tie.Need-stream-by-requires-2
 stream-by-requires-2 c κs = search needs
 
 close-requires-2 : tie.Need-close-requires-2
 close-requires-2 c κs = search needs
+
+enum-told-10 : tie.Need-enum-told-10
+enum-told-10 c = search needs
 
 returns : tie.Need-returns
 returns c = search needs
@@ -86,7 +92,10 @@ returns-10 : tie.Need-returns-10
 returns-10 c = rw (c .before .before .c .given .1) (c .stream-by .ensures)
 
 returns-11 : tie.Need-returns-11
-returns-11 c = rw (c .before .before .before .c2 .given .1, ← c .before .stream-by2 .ensures) (c .close2 .ensures)
+returns-11 c = rw (c .before .before .before .before .c2 .given .1, ← c .before .before .is-opening .ensures, ← c .before .stream-by2 .ensures) (c .close2 .ensures)
+
+returns-12 : tie.Need-returns-12
+returns-12 c = search needs
 
 pub rows-after-spec : {M : Type 1} → statement M
 rows-after-spec =
@@ -107,8 +116,10 @@ rows-after-spec =
     enum-known-c
     stream-by-requires
     enum-known-c-2
+    is-opening-requires
     stream-by-requires-2
     close-requires-2
+    enum-told-10
     returns
     returns-2
     returns-3
@@ -119,4 +130,5 @@ rows-after-spec =
     returns-8
     returns-9
     returns-10
-    returns-11)
+    returns-11
+    returns-12)

@@ -15,27 +15,29 @@ use Rattle.scan.specs.Loop.{long-of}
 use Rattle.requests.specs.declared.Slot.{Slot}
 use Rattle.requests.specs.Requests.{freeSlot, slotOf}
 use Rattle.session.specs.declared.Session.{Session}
+use Rattle.watch.proofs.Noted.{Long}
 use Rattle.session.proofs.Stored.{Sized, placed, unplaced}
 use Rattle.gate.proofs.Settled.{settled-is}
-use Rattle.test_drive.specs.Drive.{halfOf}
+use Rattle.test_drive.specs.Drive.{watchBytes, halfOf}
 use Rattle.test_drive.proofs.RecordBytes.{laid-back}
+use Rattle.test_drive.proofs.WatchBytes.{rest-back}
 use Rattle.test_drive.proofs.ScriptRuns.{half-within, drive-goes-on, drive-short, drive-full}
 use Rattle.test_drive.proofs.Columns.{sessionOf, Leaves, wide-leaves, narrow-leaves, Keeping, keeping-starts}
 use Rattle.test_drive.proofs.test_drive.Statement.{statement}
 use Rattle.test_drive.proofs.test_drive.Tie as tie
 
 abbrev Inv-loop : tie.InvT-loop
-Inv-loop script holds₀ out₀ h₀ types₀ interfaces₀ streams₀ used₀ live₀ kinds₀ ids₀ slots₀ at₀ k₀ room half holds out h types interfaces streams used live kinds ids slots at k =
-    Keeping script holds₀ out₀ holds out (sessionOf h types interfaces streams used live kinds ids slots) at k
+Inv-loop script holds₀ out₀ h₀ types₀ interfaces₀ streams₀ used₀ live₀ kinds₀ ids₀ slots₀ expected₀ gaps₀ breaks₀ at₀ k₀ room half holds out h types interfaces streams used live kinds ids slots expected gaps breaks at k =
+    Keeping script holds₀ out₀ holds out (sessionOf h types interfaces streams used live kinds ids slots expected gaps breaks) at k
 
 abbrev μ-loop : tie.MeasureT-loop
-μ-loop script holds₀ out₀ h₀ types₀ interfaces₀ streams₀ used₀ live₀ kinds₀ ids₀ slots₀ at₀ k₀ room half holds out h types interfaces streams used live kinds ids slots at k =
+μ-loop script holds₀ out₀ h₀ types₀ interfaces₀ streams₀ used₀ live₀ kinds₀ ids₀ slots₀ expected₀ gaps₀ breaks₀ at₀ k₀ room half holds out h types interfaces streams used live kinds ids slots expected gaps breaks at k =
     length out₀ / 26 - k
 
 -- ---- the way back from each place in the loop
 
 abbrev start : tie.At-loop Inv-loop μ-loop → tie.Start Inv-loop μ-loop
-start c = c .before .before .before .before .before .before .before .before .before .before .before .before .before .before .before
+start c = c .before .before .before .before .before .before .before .before .before .before .before .before .before .before .before .before .before .before .before
 
 abbrev looped : tie.Else1 Inv-loop μ-loop → tie.At-loop Inv-loop μ-loop
 looped c = c .before .before .before .before
@@ -51,7 +53,8 @@ decided c = c .before .before .before .before .before .before .before .before .b
 
 -- the session that the columns at hand are
 abbrev session : tie.At-loop Inv-loop μ-loop → Session
-session c = sessionOf (c .loop .h) (c .loop .types) (c .loop .interfaces) (c .loop .streams) (c .loop .used) (c .loop .live) (c .loop .kinds) (c .loop .ids) (c .loop .slots)
+session c =
+    sessionOf (c .loop .h) (c .loop .types) (c .loop .interfaces) (c .loop .streams) (c .loop .used) (c .loop .live) (c .loop .kinds) (c .loop .ids) (c .loop .slots) (c .loop .expected) (c .loop .gaps) (c .loop .breaks)
 
 -- where the sender's half ends; the half as it is lent to the call, and what stands there after it
 abbrev end : tie.After-base-of Inv-loop μ-loop → ℕ
@@ -63,13 +66,20 @@ lent c = midOf (c .base-of .result) (end c - c .base-of .result) (looped (item c
 abbrev after : tie.After-decide Inv-loop μ-loop → List ℕ
 after c = c .decide .last .1 .1 .1 .1 .1 .1 .1 .1 .0
 
+-- the lengths of buffer and output are numbers
+holds-number : (c : tie.After-slice-known Inv-loop μ-loop) → length (c .before .before .args .holds .now) < 2 ^ 64
+holds-number c = omega arith
+
+out-number : (c : tie.After-slice-known2 Inv-loop μ-loop) → length (c .before .before .before .args .out .now) < 2 ^ 64
+out-number c = omega arith
+
 -- ---- what each statement needs
 
 fresh-session-requires : tie.Need-fresh-session-requires Inv-loop μ-loop
 fresh-session-requires c κs = search needs
 
 loop-holds : tie.Need-loop-holds Inv-loop μ-loop
-loop-holds c = keeping-starts (c .before .before .before .before .before .before .before .before .before .before .fresh-session .ensures)
+loop-holds c = keeping-starts (c .before .before .before .before .before .before .before .before .before .before .before .before .before .before .fresh-session .ensures)
 
 sub-rest : tie.Need-sub-rest Inv-loop μ-loop
 sub-rest c = search needs
@@ -89,6 +99,29 @@ cast-size c = search needs
 add-size : tie.Need-add-size Inv-loop μ-loop
 add-size c = search needs
 
+-- the records so far end in the output
+records-within : (c : tie.At-loop Inv-loop μ-loop) → c .loop .k * 26 ≤ length (c .loop .out)
+records-within c = omega (arith, c .loop .inv .driving .room, c .loop .inv .driving .out-length)
+
+-- their end is a number
+records-number : (c : tie.At-loop Inv-loop μ-loop) → c .loop .k * 26 < 2 ^ 64
+records-number c = omega (arith, records-within c, c .loop .inv .driving .out-length, out-number (c .before .before .before .before .before .before .before .before .before .before .before .before .before .before .before .before))
+
+mul-put-watch : tie.Need-mul-put-watch Inv-loop μ-loop
+mul-put-watch c = omega (arith, records-number (c .before .before .before .before))
+
+sub-put-watch : tie.Need-sub-put-watch Inv-loop μ-loop
+sub-put-watch c = search needs
+
+part-put-watch-start : tie.Need-part-put-watch-start Inv-loop μ-loop
+part-put-watch-start c = records-within (c .before .before .before .before)
+
+part-put-watch-end : tie.Need-part-put-watch-end Inv-loop μ-loop
+part-put-watch-end c = search needs
+
+put-watch-requires : tie.Need-put-watch-requires Inv-loop μ-loop
+put-watch-requires c κs = search needs
+
 same-length : tie.Need-same-length Inv-loop μ-loop
 same-length c = search needs
 
@@ -97,8 +130,8 @@ same-length-2 c = search needs
 
 returns : tie.Need-returns Inv-loop μ-loop
 returns c =
-    let l = c .before .before .before .before in
-    drive-short (l .loop .inv .driving) (part-to-end (start l .args .script .now) (l .loop .at)) (c .before .get32 .ensures) (c .if1 .taken)
+    let l = c .before .before .before .before .before .before .before .before in
+    drive-short (l .loop .inv .driving) (part-to-end (start l .args .script .now) (l .loop .at)) (c .before .before .before .before .before .get32 .ensures) (c .before .before .before .before .if1 .taken) (rest-back (l .loop .out) (watchBytes (session l .watch)) (l .loop .k * 26) (records-within l) (c .before .before .put-watch .ensures))
 
 get8-requires : tie.Need-get8-requires Inv-loop μ-loop
 get8-requires c κs = search needs
@@ -118,7 +151,7 @@ half-fits c =
     omega (arith, c .base-of .ensures, half-within (c .before .before .side-of .result) (start (looped (item c)) .args .holds .now), looped (item c) .loop .inv .driving .holds-length)
 
 half-number : (c : tie.After-base-of Inv-loop μ-loop) → end c < 2 ^ 64
-half-number c = omega (arith, half-fits c, looped (item c) .loop .inv .driving .holds-length)
+half-number c = omega (arith, half-fits c, looped (item c) .loop .inv .driving .holds-length, holds-number (looped (item c) .before .before .before .before .before .before .before .before .before .before .before .before .before .before .before .before .before))
 
 add-hold : tie.Need-add-hold Inv-loop μ-loop
 add-hold c = omega (arith, half-number c)
@@ -203,6 +236,12 @@ array-set-from-slots c = search needs
 record-ends : (c : tie.In-loop Inv-loop μ-loop) → c .before .loop .k * 26 + 26 < 2 ^ 64
 record-ends c = omega arith
 
+has-wide-ids-requires : tie.Need-has-wide-ids-requires Inv-loop μ-loop
+has-wide-ids-requires c κs = search needs
+
+note-requires : tie.Need-note-requires Inv-loop μ-loop
+note-requires c κs = search needs
+
 mul-put-record : tie.Need-mul-put-record Inv-loop μ-loop
 mul-put-record c = let i = item (based (decided (c .before .before))) in omega (arith, record-ends (i .before .before .before))
 
@@ -244,6 +283,11 @@ wide-long c =
       slots = search (long-of, requests .1 .1 .1 .1 .0);
     }
 
+wide-watch-long : (c : tie.After-apply Inv-loop μ-loop) → Long (c .apply .result .watch)
+wide-watch-long c =
+    let watch = c .apply .ok .1 .1 .1 .1 .1 .0 .1 .1 in
+    record { expected = search (length-unmapped, watch .0); gaps = search (length-unmapped, watch .1 .0); breaks = search (length-unmapped, watch .1 .1 .0) }
+
 -- whichever way the change is made, the call leaves its outcome
 left : (c : tie.Joined3 Inv-loop μ-loop)
     → Leaves (based (decided (c .before)) .before .before .side-of .result) (session (looped (item (based (decided (c .before))))))
@@ -251,7 +295,7 @@ left : (c : tie.Joined3 Inv-loop μ-loop)
     (now (based (decided (c .before)) .before .part .result))
     (after (decided (c .before)))
     (c .before .before .before .before .before .before .settle .result .answer)
-    (sessionOf (c .if3 .h) (c .if3 .types) (c .if3 .interfaces) (c .if3 .streams) (c .if3 .used) (c .if3 .live) (c .if3 .kinds) (c .if3 .ids) (c .if3 .slots))
+    (sessionOf (c .if3 .h) (c .if3 .types) (c .if3 .interfaces) (c .if3 .streams) (c .if3 .used) (c .if3 .live) (c .if3 .kinds) (c .if3 .ids) (c .if3 .slots) (c .if3 .expected) (c .if3 .gaps) (c .if3 .breaks))
 left c =
     let t = c .before in
     let k = decided t in
@@ -269,16 +313,18 @@ left c =
     let edits = t .before .edit-of .ensures (s .rows) refl in
     ⊎-elim
     (λ w.
+    let applied : tie.After-apply Inv-loop μ-loop = record { before = record { before = record { before = record { before = record { before = record { before = t; if3 = w .0 }; holds2 = w .1 }; held = w .2 }; body-of = w .3 }; rows-handed = w .4 }; apply = w .5 } in
     wide-leaves from s piece d decides e eh ec (l .loop .holds) (b .base-of .result) (end b) (omega arith) (half-fits b) (as-long k) (w .3 .ensures) (w .4 .ensures) (w .5 .ensures)
-    (wide-long (record { before = record { before = record { before = record { before = record { before = record { before = t; if3 = w .0 }; holds2 = w .1 }; held = w .2 }; body-of = w .3 }; rows-handed = w .4 }; apply = w .5 }))
-    (λ z. sessionOf (w .16 z) (w .17 z) (w .18 z) (w .19 z) (w .20 z) (w .21 z) (w .22 z) (w .23 z) (w .24 z)))
-    (⊎-elim
+    (wide-long applied) (wide-watch-long applied)
+    (λ z. sessionOf (w .20 z) (w .21 z) (w .22 z) (w .23 z) (w .24 z) (w .25 z) (w .26 z) (w .27 z) (w .28 z) (w .29 z) (w .30 z) (w .31 z)))
     (λ w.
-    narrow-leaves from s piece d decides e eh ec (l .loop .inv .sized) edit edits (w .0 .left) (w .5 .ensures) (ap (λ (y : Slot). set (l .loop .slots) (edit .place) y) (w .8 .ensures) ∙ placed (l .loop .slots) edit (slotOf (edit .request)) (w .6 .taken))
-    (λ z. sessionOf (w .9 z) (w .10 z) (w .11 z) (w .12 z) (w .13 z) (w .14 z) (w .15 z) (w .16 z) (w .17 z)))
-    (λ w.
-    narrow-leaves from s piece d decides e eh ec (l .loop .inv .sized) edit edits (w .0 .left) (w .5 .ensures) (unplaced (l .loop .slots) edit (slotOf (edit .request)) (w .6 .left))
-    (λ z. sessionOf (w .7 z) (w .8 z) (w .9 z) (w .10 z) (w .11 z) (w .12 z) (w .13 z) (w .14 z) (w .15 z))))
+    let slots =
+    ⊎-elim
+    (λ v. v .3 ∙ ap (λ (y : Slot). set (l .loop .slots) (edit .place) y) (v .2 .ensures) ∙ placed (l .loop .slots) edit (slotOf (edit .request)) (v .0 .taken))
+    (λ v. v .1 ∙ unplaced (l .loop .slots) edit (slotOf (edit .request)) (v .0 .left))
+    (w .6 .came) in
+    narrow-leaves from s piece d decides e eh ec (l .loop .inv .sized) (l .loop .inv .long) edit edits (w .0 .left) (w .5 .ensures) slots (w .7 .ensures) (w .11 .ensures)
+    (λ z. sessionOf (w .12 z) (w .13 z) (w .14 z) (w .15 z) (w .16 z) (w .17 z) (w .18 z) (w .19 z) (w .20 z) (w .21 z) (w .22 z) (w .23 z)))
     (c .if3 .came)
 
 loop-again : tie.Need-loop-again Inv-loop μ-loop
@@ -292,7 +338,23 @@ loop-again c =
       driving =
           drive-goes-on (l .loop .inv .driving) (j .before .before .before .before .before .before .settle .result .answer) (i .before .before .before .loop-test .taken) (part-to-end (start l .args .script .now) (l .loop .at)) (i .before .get32 .ensures) (i .if1 .left) (b .before .before .before .get8 .ensures) (b .before .before .side-of .ensures) (b .before .part .ensures) (b .base-of .ensures) (sym (drop-take (b .base-of .result) (end b) (l .loop .holds))) (left j .tells) (laid-back (l .loop .holds) (after k) (b .base-of .result) (end b) (omega arith) (half-fits b) (as-long k)) (c .before .before .put-record .ensures);
       sized = left j .sized;
+      long = left j .long;
     }
+
+mul-put-watch-2 : tie.Need-mul-put-watch-2 Inv-loop μ-loop
+mul-put-watch-2 c = omega (arith, records-number (c .before))
+
+sub-put-watch-2 : tie.Need-sub-put-watch-2 Inv-loop μ-loop
+sub-put-watch-2 c = search needs
+
+part-put-watch-start-2 : tie.Need-part-put-watch-start-2 Inv-loop μ-loop
+part-put-watch-start-2 c = records-within (c .before)
+
+part-put-watch-end-2 : tie.Need-part-put-watch-end-2 Inv-loop μ-loop
+part-put-watch-end-2 c = search needs
+
+put-watch-requires-2 : tie.Need-put-watch-requires-2 Inv-loop μ-loop
+put-watch-requires-2 c κs = search needs
 
 same-length-3 : tie.Need-same-length-3 Inv-loop μ-loop
 same-length-3 c = search needs
@@ -301,7 +363,9 @@ same-length-4 : tie.Need-same-length-4 Inv-loop μ-loop
 same-length-4 c = search needs
 
 returns-2 : tie.Need-returns-2 Inv-loop μ-loop
-returns-2 c = drive-full (c .before .loop .inv .driving) (c .loop-test .left)
+returns-2 c =
+    let l = c .before .before .before .before .before in
+    drive-full (l .loop .inv .driving) (c .before .before .before .before .loop-test .left) (rest-back (l .loop .out) (watchBytes (session l .watch)) (l .loop .k * 26) (records-within l) (c .before .before .put-watch2 .ensures))
 
 pub test-drive-spec : {M : Type 1} → statement M
 test-drive-spec =
@@ -317,6 +381,11 @@ test-drive-spec =
     get32-requires
     cast-size
     add-size
+    mul-put-watch
+    sub-put-watch
+    part-put-watch-start
+    part-put-watch-end
+    put-watch-requires
     same-length
     same-length-2
     returns
@@ -348,12 +417,19 @@ test-drive-spec =
     slot-for-requires
     mul-slots
     array-set-from-slots
+    has-wide-ids-requires
+    note-requires
     mul-put-record
     put-record-requires
     add-at
     add-k
     loop-less
     loop-again
+    mul-put-watch-2
+    sub-put-watch-2
+    part-put-watch-start-2
+    part-put-watch-end-2
+    put-watch-requires-2
     same-length-3
     same-length-4
     returns-2)

@@ -10,8 +10,9 @@ use borrow.Rule.Slice.PartAt.{part-to-end}
 use borrow.Rule.Slice.PartMut.{midOf}
 use borrow.Author.Needs.{needs}
 use Rattle.octets.proofs.Integers.{drop-take}
-use Rattle.test_drive.specs.Drive.{halfOf}
+use Rattle.test_drive.specs.Drive.{watchBytes, halfOf}
 use Rattle.test_drive.proofs.RecordBytes.{laid-back}
+use Rattle.test_drive.proofs.WatchBytes.{rest-back}
 use Rattle.test_drive.proofs.ScriptRuns.{half-within, Driving, drive-starts, drive-goes-on, drive-short, drive-full}
 use Rattle.test_drive_by_value.proofs.test_drive_by_value.Statement.{statement}
 use Rattle.test_drive_by_value.proofs.test_drive_by_value.Tie as tie
@@ -69,6 +70,28 @@ cast-size c = search needs
 add-size : tie.Need-add-size Inv-loop μ-loop
 add-size c = search needs
 
+-- the records so far end in the output, so that their end is a number
+records-within : (c : tie.At-loop Inv-loop μ-loop) → c .loop .k * 26 ≤ length (c .loop .out)
+records-within c = omega (arith, c .loop .inv .room, c .loop .inv .out-length)
+
+records-number : (c : tie.At-loop Inv-loop μ-loop) → c .loop .k * 26 < 2 ^ 64
+records-number c = omega (arith, records-within c, c .loop .inv .out-length)
+
+mul-put-watch : tie.Need-mul-put-watch Inv-loop μ-loop
+mul-put-watch c = omega (arith, records-number (c .before .before .before .before .before))
+
+sub-put-watch : tie.Need-sub-put-watch Inv-loop μ-loop
+sub-put-watch c = search needs
+
+part-put-watch-start : tie.Need-part-put-watch-start Inv-loop μ-loop
+part-put-watch-start c = records-within (c .before .before .before .before .before)
+
+part-put-watch-end : tie.Need-part-put-watch-end Inv-loop μ-loop
+part-put-watch-end c = search needs
+
+put-watch-requires : tie.Need-put-watch-requires Inv-loop μ-loop
+put-watch-requires c κs = search needs
+
 same-length : tie.Need-same-length Inv-loop μ-loop
 same-length c = search needs
 
@@ -77,8 +100,8 @@ same-length-2 c = search needs
 
 returns : tie.Need-returns Inv-loop μ-loop
 returns c =
-    let l = c .before .before .before .before in
-    drive-short (l .loop .inv) (part-to-end (start l .args .script .now) (l .loop .at)) (c .before .get32 .ensures) (c .if1 .taken)
+    let l = c .before .before .before .before .before .before .before .before .before in
+    drive-short (l .loop .inv) (part-to-end (start l .args .script .now) (l .loop .at)) (c .before .before .before .before .before .before .get32 .ensures) (c .before .before .before .before .before .if1 .taken) (rest-back (l .loop .out) (watchBytes (l .loop .s .watch)) (l .loop .k * 26) (records-within l) (c .before .before .put-watch .ensures))
 
 get8-requires : tie.Need-get8-requires Inv-loop μ-loop
 get8-requires c κs = search needs
@@ -150,6 +173,21 @@ loop-again c =
     let l = looped i in
     drive-goes-on (l .loop .inv) (o .offer .result .answer) (i .before .before .before .loop-test .taken) (part-to-end (start l .args .script .now) (l .loop .at)) (i .before .get32 .ensures) (i .if1 .left) (b .before .before .before .get8 .ensures) (b .before .before .side-of .ensures) (b .before .part .ensures) (b .base-of .ensures) (sym (drop-take (b .base-of .result) (end b) (l .loop .holds))) (o .offer .ensures) (laid-back (l .loop .holds) (after o) (b .base-of .result) (end b) (omega arith) (half-fits b) (as-long o)) (c .before .before .put-record .ensures)
 
+mul-put-watch-2 : tie.Need-mul-put-watch-2 Inv-loop μ-loop
+mul-put-watch-2 c = omega (arith, records-number (c .before .before))
+
+sub-put-watch-2 : tie.Need-sub-put-watch-2 Inv-loop μ-loop
+sub-put-watch-2 c = search needs
+
+part-put-watch-start-2 : tie.Need-part-put-watch-start-2 Inv-loop μ-loop
+part-put-watch-start-2 c = records-within (c .before .before)
+
+part-put-watch-end-2 : tie.Need-part-put-watch-end-2 Inv-loop μ-loop
+part-put-watch-end-2 c = search needs
+
+put-watch-requires-2 : tie.Need-put-watch-requires-2 Inv-loop μ-loop
+put-watch-requires-2 c κs = search needs
+
 same-length-3 : tie.Need-same-length-3 Inv-loop μ-loop
 same-length-3 c = search needs
 
@@ -157,7 +195,9 @@ same-length-4 : tie.Need-same-length-4 Inv-loop μ-loop
 same-length-4 c = search needs
 
 returns-2 : tie.Need-returns-2 Inv-loop μ-loop
-returns-2 c = drive-full (c .before .loop .inv) (c .loop-test .left)
+returns-2 c =
+    let l = c .before .before .before .before .before .before in
+    drive-full (l .loop .inv) (c .before .before .before .before .before .loop-test .left) (rest-back (l .loop .out) (watchBytes (l .loop .s .watch)) (l .loop .k * 26) (records-within l) (c .before .before .put-watch2 .ensures))
 
 pub test-drive-by-value-spec : {M : Type 1} → statement M
 test-drive-by-value-spec =
@@ -173,6 +213,11 @@ test-drive-by-value-spec =
     get32-requires
     cast-size
     add-size
+    mul-put-watch
+    sub-put-watch
+    part-put-watch-start
+    part-put-watch-end
+    put-watch-requires
     same-length
     same-length-2
     returns
@@ -191,6 +236,11 @@ test-drive-by-value-spec =
     add-k
     loop-less
     loop-again
+    mul-put-watch-2
+    sub-put-watch-2
+    part-put-watch-start-2
+    part-put-watch-end-2
+    put-watch-requires-2
     same-length-3
     same-length-4
     returns-2)

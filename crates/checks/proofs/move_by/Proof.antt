@@ -1,0 +1,17 @@
+-- `checks::move_by` meets its contract: the tests are the definition's, in its order.
+-- Assumes nothing.
+use borrow.Author.Tests.{eq-eqb, ne-eqb}
+use Rattle.checks.proofs.move_by.Statement.{statement}
+use Rattle.checks.proofs.move_by.Tie as tie
+
+returns : tie.Need-returns
+returns c = rw (eq-eqb _ _ (c .if1 .taken))
+
+returns-2 : tie.Need-returns-2
+returns-2 c = rw (ne-eqb _ _ (c .before .if1 .left), c .if2 .taken)
+
+returns-3 : tie.Need-returns-3
+returns-3 c = rw (ne-eqb _ _ (c .before .if1 .left), c .if2 .left)
+
+pub move-by-spec : {M : Type 1} → statement M
+move-by-spec = tie.close (tie.spec returns returns-2 returns-3)
