@@ -27,6 +27,7 @@ use Rattle.events.specs.declared.Typed.the-variants.{OfEndpoint}
 use Rattle.events.specs.Meaning.{Class, Hello, Connect, Interfaces, Endpoints, Disconnect, Reset, Ack, Cancel, Filter, StartRequest, PlainRequest, StreamStatus, PlainReply, StreamOut, StreamIn}
 use Rattle.events.specs.Event.{Event, isTransfer, caseOf, replyOf}
 use Rattle.events.specs.Proper.{isStream}
+use Rattle.events.specs.Status.{isStall}
 use Rattle.checks.specs.declared.Change.{Change}
 use Rattle.checks.specs.declared.Change.the-variants as changes
 use Rattle.checks.specs.declared.StreamMove.the-variants.{Stalls}
@@ -113,7 +114,7 @@ module _ (t : Requests) where
 
 -- by the request that it answers: 33 and 34
 abbrev matchNumber : Event → Bool → Match → ℕ
-matchNumber e unasked Unmatched = cond (unasked && eqb (e .request .id) 0 && eqb (e .status) 4) 0 33
+matchNumber e unasked Unmatched = cond (unasked && eqb (e .request .id) 0 && isStall (e .status)) 0 33
 matchNumber e unasked (Matched i q) = cond (ltb (q .length) (e .request .length)) 34 0
 
 module _ (t : Requests) (e : Event) (unasked : Bool) where
@@ -122,10 +123,10 @@ module _ (t : Requests) (e : Event) (unasked : Bool) where
   wanted (Matched i q) = changes.Release i (e .typed) (moveOf e (Matched i q)) (scopeOf e (Matched i q))
 
   none-answered : unmatched (e .typed) (alone (replyOf e) unasked) ≡ ruledBy (matchNumber e unasked Unmatched) (wanted Unmatched)
-  none-answered = cases (unasked && eqb (e .request .id) 0 && eqb (e .status) 4) (λ x. rw x) (λ x. rw x)
+  none-answered = cases (unasked && eqb (e .request .id) 0 && isStall (e .status)) (λ x. rw x) (λ x. rw x)
 
   none-matched : settled (unmatched (e .typed) (alone (replyOf e) unasked)) t ≡ ruledBy (matchNumber e unasked Unmatched) (wanted Unmatched)
-  none-matched = cases (unasked && eqb (e .request .id) 0 && eqb (e .status) 4) (λ x. rw x) (λ x. rw x)
+  none-matched = cases (unasked && eqb (e .request .id) 0 && isStall (e .status)) (λ x. rw x) (λ x. rw x)
 
   -- the live request with its id, as the columns have it
   there : (i : ℕ) → lowest t (Id (e .request .id)) ≡ some i → (placeAt t i .request ≡ requestAt t i) × (requestAt t i .id ≡ e .request .id)
@@ -175,13 +176,13 @@ module _ (t : Requests) (e : Event) (unasked : Bool) where
   -- and by the checks: 25, 33, 34
   reply-shape : (a : Bool) (r : Ruling) (m : Match) → settled r t ≡ ruledBy (matchNumber e unasked m) (wanted m)
       → settled (cond a r (Denied 25)) t
-      ≡ ruledBy (cond (not a) 25 (cond (isUnmatched m && not (unasked && eqb (e .request .id) 0 && eqb (e .status) 4)) 33 (cond (tooLong e m) 34 0))) (changes.Release (placeIn m) (e .typed) (moveOf e m) (scopeOf e m))
+      ≡ ruledBy (cond (not a) 25 (cond (isUnmatched m && not (unasked && eqb (e .request .id) 0 && isStall (e .status))) 33 (cond (tooLong e m) 34 0))) (changes.Release (placeIn m) (e .typed) (moveOf e m) (scopeOf e m))
   reply-shape false r m h = refl
-  reply-shape true r Unmatched h = h ∙ cases (unasked && eqb (e .request .id) 0 && eqb (e .status) 4) (λ x. rw (x, stalled x)) (λ x. rw x)
+  reply-shape true r Unmatched h = h ∙ cases (unasked && eqb (e .request .id) 0 && isStall (e .status)) (λ x. rw (x, stalled x)) (λ x. rw x)
     where
       -- what may come unasked is a stall
-      stalled : (unasked && eqb (e .request .id) 0 && eqb (e .status) 4) ≡ true → eqb (e .status) 4 ≡ true
-      stalled x = and-parts (unasked && eqb (e .request .id) 0) (eqb (e .status) 4) x .1
+      stalled : (unasked && eqb (e .request .id) 0 && isStall (e .status)) ≡ true → isStall (e .status) ≡ true
+      stalled x = and-parts (unasked && eqb (e .request .id) 0) (isStall (e .status)) x .1
   reply-shape true r (Matched i q) h = h
 
 -- ---- every class

@@ -32,6 +32,7 @@ use Rattle.checks.specs.declared.Expected.{Expected}
 use Rattle.checks.specs.declared.Ruling.{Ruling}
 use Rattle.checks.specs.declared.Ruling.the-variants.{Denied, Granted, Pending}
 use Rattle.checks.specs.Checks.{mistypedBy}
+use Rattle.events.specs.Status.{isStall}
 use Rattle.checks.specs.Change.{moveBy}
 use Rattle.checks.specs.Ruled.{taking, askedBy, unmatched, alone, scopeTo, expected, settledBy, repliedIn, streamedBy, ruled}
 
@@ -112,26 +113,33 @@ module _ (i : ℕ) (x : Expected) (typed : Typed) (stream : StreamMove) (scope :
 
 -- ---- a reply, by the place that has its id
 
-module _ (t : Requests) (r : Reply) (typed : Typed) (unasked : Bool) (f : FoundPlace) (found : foundAt f ≡ lowest t (Id (r .told .id))) where
+-- s: whether the reply is a stall
+module _ (t : Requests) (r : Reply) (typed : Typed) (unasked : Bool) (s : Bool) (stall : s ≡ isStall (r .status)) (f : FoundPlace) (found : foundAt f ≡ lowest t (Id (r .told .id))) where
   abbrev replied : Ruling
   replied = repliedIn t r typed unasked (lowest t (Id (r .told .id)))
 
   at-place : (z : FoundPlace) → f ≡ z → repliedIn t r typed unasked (foundAt z) ≡ replied
   at-place z e = rw (← found, e)
 
+  abbrev lone : Bool
+  lone = unasked && eqb (r .told .id) 0 && s
+
+  lone-is : lone ≡ alone r unasked
+  lone-is = ap (λ (b : Bool). unasked && eqb (r .told .id) 0 && b) stall
+
   -- no request is answered
-  pub reply-nowhere : f ≡ NoPlace → (u : Ruling) → u ≡ unmatched typed (alone r unasked) → u ≡ replied
-  reply-nowhere e u c = c ∙ at-place NoPlace e
+  pub reply-nowhere : f ≡ NoPlace → (u : Ruling) → u ≡ unmatched typed lone → u ≡ replied
+  reply-nowhere e u c = c ∙ ap (unmatched typed) lone-is ∙ at-place NoPlace e
 
   module _ (i : ℕ) (e : f ≡ AtPlace i) (k : ℕ) (isk : k ≡ getD (t .kinds) i 0) where
     -- its kind is none that the reply answers
-    pub reply-other : (eqb k (r .answers .first) || eqb k (r .answers .second)) ≡ false → (u : Ruling) → u ≡ unmatched typed (alone r unasked) → u ≡ replied
-    reply-other h u c = c ∙ rw (← isk, h) at (at-place (AtPlace i) e)
+    pub reply-other : (eqb k (r .answers .first) || eqb k (r .answers .second)) ≡ false → (u : Ruling) → u ≡ unmatched typed lone → u ≡ replied
+    reply-other h u c = c ∙ ap (unmatched typed) lone-is ∙ (rw (← isk, h) at (at-place (AtPlace i) e))
 
     pub reply-pending : (eqb k (r .answers .first) || eqb k (r .answers .second)) ≡ true
         → (m : StreamMove) → m ≡ moveBy (r .status) (eqb k (r .answers .first)) → (s : Scope) → s ≡ scopeTo r k
-        → Pending i (expected r unasked) typed m s ≡ replied
-    reply-pending h m b s c = rw (b, c) (rw (← isk, h) at (at-place (AtPlace i) e))
+        → Pending i (record { length = r .told .length; target = r .told .target; targeted = r .answers .targeted; unasked = lone }) typed m s ≡ replied
+    reply-pending h m b s c = rw (b, c, lone-is) (rw (← isk, h) at (at-place (AtPlace i) e))
 
 -- a ruling is that of the packet's case
 pub by-case : (h : Head) (d : Rows) (t : Requests) (c x : Case) (r : Ruling) → c ≡ x → r ≡ ruled h d t x → r ≡ ruled h d t c

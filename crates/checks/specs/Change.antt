@@ -12,6 +12,7 @@ use Rattle.requests.specs.declared.Requests.{Requests}
 use Rattle.requests.specs.Requests.{places, Free, lowest}
 use Rattle.events.specs.Meaning.{Class, Hello, Connect, Interfaces, Endpoints, Disconnect, Reset, Ack, Cancel, Filter, StartRequest, PlainRequest, StreamStatus, PlainReply, StreamOut, StreamIn}
 use Rattle.events.specs.Event.{Event, endpointIn}
+use Rattle.events.specs.Status.{isSuccess, isStall}
 use Rattle.checks.specs.declared.Change.{Change}
 use Rattle.checks.specs.declared.Change.the-variants as changes
 use Rattle.checks.specs.declared.StreamMove.{StreamMove}
@@ -20,10 +21,10 @@ use Rattle.checks.specs.declared.Ruling.{Ruling}
 use Rattle.checks.specs.declared.Ruling.the-variants.{Denied, Granted}
 use Rattle.checks.specs.Checks.{Match, Unmatched, Matched, matchOf, numberOf}
 
--- "a status opens if it answers a start with 0 and otherwise closes"; with 4, a stall, the row's ids begin anew besides. A plain reply names no row that
+-- "a status opens if it answers a start with 0 and otherwise closes"; at a stall the row's ids begin anew besides. A plain reply names no row that
 -- it could move.
 abbrev pub moveBy : ℕ → Bool → StreamMove
-moveBy status start = cond (eqb status 4) Stalls (cond (eqb status 0 && start) Opens Closes)
+moveBy status start = cond (isStall status) Stalls (cond (isSuccess status && start) Opens Closes)
 
 abbrev pub answersStart : Event → Match → Bool
 answersStart e Unmatched = false
@@ -37,17 +38,17 @@ isOpening Opens = true
 isOpening Closes = false
 isOpening Stalls = false
 
-abbrev pub isStall : StreamMove → Bool
-isStall Opens = false
-isStall Closes = false
-isStall Stalls = true
+abbrev pub isStalling : StreamMove → Bool
+isStalling Opens = false
+isStalling Closes = false
+isStalling Stalls = true
 
 -- "8 with status 0 to a 6 frees every data request .. and closes all streams. 11 with status 0 to a 9 does so for rows other than 0
 -- and 16 of that interface."
 abbrev pub scopeOf : Event → Match → Scope
 scopeOf e Unmatched = NoRow
 scopeOf e (Matched i q) =
-    cond (eqb (e .status) 0) (cond (eqb (q .kind) 6) EveryRow (cond (eqb (q .kind) 9) (OfInterface (e .request .target)) NoRow)) NoRow
+    cond (isSuccess (e .status)) (cond (eqb (q .kind) 6) EveryRow (cond (eqb (q .kind) 9) (OfInterface (e .request .target)) NoRow)) NoRow
 
 -- a place of the table, 96 where there is none
 abbrev pub placeOr : Option ℕ → ℕ

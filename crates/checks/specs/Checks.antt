@@ -17,6 +17,7 @@ use Rattle.events.specs.Meaning.{Class, Hello, Connect, Interfaces, Endpoints, 
 use Rattle.events.specs.declared.Typed.{Typed}
 use Rattle.events.specs.declared.Typed.the-variants.{Untyped, OfEndpoint, OfMask}
 use Rattle.events.specs.Event.{Event, isTransfer}
+use Rattle.events.specs.Status.{isStall}
 
 -- ---- what the checks ask of a class
 
@@ -167,7 +168,7 @@ isUnmatched (Matched i q) = false
 
 -- "Kinds 14, 17, 27 with id 0 and status 4 that match nothing pass as unsolicited."
 abbrev pub isUnsolicited : Event → Bool
-isUnsolicited e = traitsOf (e .class) .unsolicited && eqb (e .request .id) 0 && eqb (e .status) 4
+isUnsolicited e = traitsOf (e .class) .unsolicited && eqb (e .request .id) 0 && isStall (e .status)
 
 -- "Id and, where both carry one, the endpoint or interface must match; else 33."
 abbrev pub noSuchRequest : Event → Match → Bool

@@ -19,6 +19,7 @@ use Rattle.events.specs.declared.Typed.{Typed}
 use Rattle.events.specs.declared.Reply.{Reply}
 use Rattle.events.specs.declared.Case.{Case}
 use Rattle.events.specs.declared.Case.the-variants as cases
+use Rattle.events.specs.Status.{isSuccess, isStall}
 use Rattle.checks.specs.declared.Change.{Change}
 use Rattle.checks.specs.declared.Change.the-variants.{NoChange, Seen, Hello, Connect, Interfaces, Endpoints, Disconnect, Reset, Acknowledge, Take, TakeAndOpen, Release}
 use Rattle.checks.specs.declared.StreamMove.{StreamMove}
@@ -51,13 +52,13 @@ askedBy d t q typed starts transfer =
 abbrev pub unmatched : Typed → Bool → Ruling
 unmatched typed unasked = cond unasked (Granted (Release places typed Stalls NoRow)) (Denied 33)
 
--- a reply of a kind that may, with id 0 and status 4, comes unasked
+-- a reply of a kind that may, with id 0 and a stall, comes unasked
 abbrev pub alone : Reply → Bool → Bool
-alone r unasked = unasked && eqb (r .told .id) 0 && eqb (r .status) 4
+alone r unasked = unasked && eqb (r .told .id) 0 && isStall (r .status)
 
 -- what else a reply to a request of this kind ends
 abbrev pub scopeTo : Reply → ℕ → Scope
-scopeTo r kind = cond (eqb (r .status) 0) (cond (eqb kind 6) EveryRow (cond (eqb kind 9) (OfInterface (r .told .target)) NoRow)) NoRow
+scopeTo r kind = cond (isSuccess (r .status)) (cond (eqb kind 6) EveryRow (cond (eqb kind 9) (OfInterface (r .told .target)) NoRow)) NoRow
 
 -- what the slot of its request has to have
 abbrev pub expected : Reply → Bool → Expected

@@ -19,6 +19,8 @@ use endpoint::Endpoint;
 use events::Case;
 use events::Reply;
 use events::Typed;
+use events::is_stall;
+use events::is_success;
 use requests::FoundPlace;
 use requests::PLACES;
 use requests::Request;
@@ -186,7 +188,7 @@ fn scope_to(r: Reply, kind: u8) -> Scope
     ensures { λ s. ⌜ s ≡ scopeTo r kind ⌝ }
 {
     let told = r.told;
-    if r.status != 0 {
+    if !is_success(r.status) {
         return Scope::NoRow;
     }
     if kind == 6 {
@@ -203,10 +205,10 @@ fn scope_to(r: Reply, kind: u8) -> Scope
 fn move_by(status: u8, start: bool) -> StreamMove
     ensures { λ r. ⌜ r ≡ moveBy status start ⌝ }
 {
-    if status == 4 {
+    if is_stall(status) {
         return StreamMove::Stalls;
     }
-    if (status == 0) & start {
+    if is_success(status) & start {
         StreamMove::Opens
     } else {
         StreamMove::Closes
@@ -227,7 +229,7 @@ fn rule_reply<'a>(
 {
     let told = r.told;
     let a = r.answers;
-    let alone = unasked & (told.id == 0) & (r.status == 4);
+    let alone = unasked & (told.id == 0) & is_stall(r.status);
     let f = find_id(used, live, ids, told.id);
     match f {
         FoundPlace::AtPlace(i) => {

@@ -30,7 +30,7 @@ use Rattle.checks.specs.Checks.{isBegun, isDone, mistypedBy, Check, _when_, fir
 use Rattle.session.specs.declared.Session.{Session}
 use Rattle.session.specs.Session.{linkOf}
 use Rattle.session.specs.Step.{judged}
-use Rattle.claims.specs.Allowed.{among, isRequest, isReply, answersKind, carriesTarget, wants, comesOnStream, endpointNamed, inwardOf, replyTarget, countOf, AnsweredBy, Unsolicited, HasDevice, NoneOwed, Introduced, RightType, NoneSettling, StreamOpen, UnusedId, HasRoom, WasAsked, NotLonger, Allowed, SessionNumbered, AllowedExactly, NumberInWords}
+use Rattle.claims.specs.Allowed.{among, isRequest, isReply, answersKind, carriesTarget, wants, comesOnStream, endpointNamed, inwardOf, replyTarget, countOf, AnsweredBy, Unsolicited, HasDevice, NoneOwed, Introduced, RightType, NoneSettling, StreamOpen, UnusedId, HasRoom, WasAsked, NotLonger, Allowed, SessionNumbered, AllowedExactly, NumberInWords, stalled}
 use Rattle.claims.specs.NumberByKind.{disordered, rowBy, typedBy, answersBy, answeredAt, longerThan, checksBy}
 use Rattle.claims.proofs.EventChecks.{one-of-two}
 use Rattle.claims.proofs.NumberByKind.{number-by}
@@ -252,7 +252,7 @@ module _ (s : Session) (from : Side) (p : Content) where
   reply = isReply from (p .kind) (inwardOf p)
 
   abbrev alone : Bool
-  alone = among (14 ∷ 17 ∷ 27 ∷ []) (p .kind) && eqb (p .id) 0 && eqb (field "status" p) 4
+  alone = among (14 ∷ 17 ∷ 27 ∷ []) (p .kind) && eqb (p .id) 0 && stalled p
 
   was-asked : (reply && not (isSome (answeredAt t p)) && not alone) ≡ false → WasAsked s from p
   was-asked h r = go (answeredAt t p) refl
@@ -261,9 +261,9 @@ module _ (s : Session) (from : Side) (p : Content) where
       go (some i) e = inl (i, found i e)
       go none e =
           let u : alone ≡ true = not-false alone (fails (reply && not (isSome (answeredAt t p))) (not alone) h (and-whole reply _ r (ap (λ (o : Option ℕ). not (isSome o)) e))) in
-          let w = and-parts (among (14 ∷ 17 ∷ 27 ∷ []) (p .kind) && eqb (p .id) 0) (eqb (field "status" p) 4) u in
+          let w = and-parts (among (14 ∷ 17 ∷ 27 ∷ []) (p .kind) && eqb (p .id) 0) (stalled p) u in
           let x = and-parts (among (14 ∷ 17 ∷ 27 ∷ []) (p .kind)) (eqb (p .id) 0) (w .0) in
-          inr (record { kind = x .0; id = eqb-true (p .id) 0 (x .1); status = eqb-true (field "status" p) 4 (w .1); unmatched = unfound e })
+          inr (record { kind = x .0; id = eqb-true (p .id) 0 (x .1); status = w .1; unmatched = unfound e })
 
   asking : WasAsked s from p → (reply && not (isSome (answeredAt t p)) && not alone) ≡ false
   asking f = failing (reply && not (isSome (answeredAt t p))) (not alone) (λ x. let q = and-parts reply (not (isSome (answeredAt t p))) x in go (f (q .0)) (not-true _ (q .1)))
@@ -274,7 +274,7 @@ module _ (s : Session) (from : Side) (p : Content) where
 
       go : ((i : ℕ) × AnsweredBy t p i) ⊎ Unsolicited t p → isSome (answeredAt t p) ≡ false → not alone ≡ false
       go (inl w) n = absurd (lost (w .0) (w .1) (answeredAt t p) refl n)
-      go (inr u) n = false-not alone (and-whole _ _ (and-whole _ _ (u .kind) (eq-eqb (p .id) 0 (u .id))) (eq-eqb (field "status" p) 4 (u .status)))
+      go (inr u) n = false-not alone (and-whole _ _ (and-whole _ _ (u .kind) (eq-eqb (p .id) 0 (u .id))) (u .status))
 
   pub asked-is : ((reply && not (isSome (answeredAt t p)) && not alone) ≡ false) ↔ WasAsked s from p
   asked-is = (was-asked, asking)

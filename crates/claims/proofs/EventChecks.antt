@@ -26,7 +26,7 @@ use Rattle.events.specs.Event.{Event, field, eventOf}
 use Rattle.checks.specs.Checks.{traitsOf, outOfOrder, matchOf, numberFor, mistypedBy, isOpen, matchIn, isUnsolicited, noSuchRequest, numberOf, Match, streamClosed, settling, tooLong, noDevice, ackOwed, wrongType, idInUse, isFull}
 use Rattle.session.specs.declared.Session.{Session}
 use Rattle.session.specs.Step.{judged}
-use Rattle.claims.specs.Allowed.{among, isReply, wants, comesOnStream, endpointNamed, inwardOf}
+use Rattle.claims.specs.Allowed.{among, isReply, wants, comesOnStream, endpointNamed, inwardOf, stalled}
 use Rattle.claims.specs.NumberByKind.{disordered, rowBy, typedBy, answersBy}
 use Rattle.claims.specs.Grounds.{groundsOf, groundsBy}
 
@@ -172,6 +172,6 @@ module _ (s : Session) (from : Side) (p : Content) (a : groundsOf (eventOf from 
     unfolding matchOf
     match-is = rw replies
 
-    pub unsolicited-is : isUnsolicited e ≡ (among (14 ∷ 17 ∷ 27 ∷ []) (p .kind) && eqb (p .id) 0 && eqb (field "status" p) 4)
+    pub unsolicited-is : isUnsolicited e ≡ (among (14 ∷ 17 ∷ 27 ∷ []) (p .kind) && eqb (p .id) 0 && stalled p)
     unfolding eventOf
-    unsolicited-is i = a i .unsolicited && eqb (p .id) 0 && eqb (field "status" p) 4
+    unsolicited-is i = a i .unsolicited && eqb (p .id) 0 && stalled p

@@ -32,7 +32,7 @@ use Rattle.checks.specs.Change.{scopeOf}
 use Rattle.session.specs.declared.Session.{Session}
 use Rattle.session.specs.Session.{linkOf}
 use Rattle.session.specs.Step.{applied, nextFor, judged}
-use Rattle.claims.specs.Allowed.{among, isRequest, isReply, oneOf, answersKind, carriesTarget, inwardOf, countOf, requestOf, AnsweredBy, Unsolicited}
+use Rattle.claims.specs.Allowed.{among, isRequest, isReply, oneOf, answersKind, carriesTarget, inwardOf, countOf, requestOf, AnsweredBy, Unsolicited, stalled}
 use Rattle.claims.specs.Grounds.{groundsOf, groundsBy}
 use Rattle.claims.specs.Exchange.{TakesPlace, RequestKeeps, EndsWith, Consumes, ReplyPasses, ReplyConsumes, NoLive, AnsweredAbsent, LateReply, Late, CancelPasses}
 use Rattle.claims.proofs.Grounds.{agrees}
@@ -158,7 +158,7 @@ module _ (s : Session) (from : Side) (p : Content) (w : wireNumber (linkOf from 
           let x = and-parts _ (touched (s .rows) scope target) h in
           let y = and-parts (placeAt (s .requests) j .live) _ (x .0) in
           cases (eqb (e .status) 0)
-          (λ z. record { live = y .0; kind = y .1; status = eqb-true (e .status) 0 z; scope = by-kind z (x .1) })
+          (λ z. record { live = y .0; kind = y .1; status = z; scope = by-kind z (x .1) })
           (λ z. absurd (false≢true (rw z at (x .1))))
         where
           by-kind : eqb (e .status) 0 ≡ true → touched (s .rows) scope target ≡ true → (q .kind ≡ 6) ⊎ ((q .kind ≡ 9) × (touched (s .rows) (OfInterface (q .target)) target ≡ true))
@@ -177,7 +177,7 @@ module _ (s : Session) (from : Side) (p : Content) (w : wireNumber (linkOf from 
       too-ends x = and-whole _ (touched (s .rows) scope target) (and-whole (placeAt (s .requests) j .live) _ (x .live) (x .kind)) (by-kind (x .scope))
         where
           zero-status : eqb (e .status) 0 ≡ true
-          zero-status = eq-eqb (e .status) 0 (x .status)
+          zero-status = x .status
 
           by-kind : (q .kind ≡ 6) ⊎ ((q .kind ≡ 9) × (touched (s .rows) (OfInterface (q .target)) target ≡ true)) → touched (s .rows) scope target ≡ true
           by-kind (inl six) = rw (zero-status, eq-eqb (q .kind) 6 six)
@@ -250,12 +250,12 @@ module _ (s : Session) (from : Side) (p : Content) (w : wireNumber (linkOf from 
       where
         alone : isUnsolicited e ≡ true → Unsolicited (s .requests) p
         alone y =
-            let v = and-parts (among (14 ∷ 17 ∷ 27 ∷ []) (p .kind) && eqb (p .id) 0) (eqb (field "status" p) 4) (sym (unsolicited-is s from p agreed r) ∙ y) in
+            let v = and-parts (among (14 ∷ 17 ∷ 27 ∷ []) (p .kind) && eqb (p .id) 0) (stalled p) (sym (unsolicited-is s from p agreed r) ∙ y) in
             let x = and-parts (among (14 ∷ 17 ∷ 27 ∷ []) (p .kind)) (eqb (p .id) 0) (v .0) in
             record {
               kind = x .0;
               id = eqb-true (p .id) 0 (x .1);
-              status = eqb-true (field "status" p) 4 (v .1);
+              status = v .1;
               unmatched = λ i a. n i (a .place) (a .live) (a .id);
             }
 

@@ -8,6 +8,7 @@ pub mod NumberByKind
 pub mod Movements
 pub mod PacketLists
 pub mod Watched
+pub mod Outcomes
 pub mod TestsInWords
 pub mod FitBorders
 pub mod Examples

@@ -20,7 +20,7 @@ use Rattle.events.specs.Event.{Event, field, eventOf}
 use Rattle.checks.specs.Checks.{traitsOf, matchOf, numberFor, matchIn, isUnsolicited, noSuchRequest, numberOf, Unmatched, streamClosed, settling, isUnmatched, tooLong, _when_, firstOf}
 use Rattle.session.specs.declared.Session.{Session}
 use Rattle.session.specs.Session.{linkOf}
-use Rattle.claims.specs.Allowed.{among, isReply, comesOnStream, endpointNamed, inwardOf}
+use Rattle.claims.specs.Allowed.{among, isReply, comesOnStream, endpointNamed, inwardOf, stalled}
 use Rattle.claims.specs.NumberByKind.{answeredAt, longerThan, checksBy, NumberBy}
 use Rattle.claims.specs.Grounds.{groundsOf, groundsBy}
 use Rattle.claims.proofs.Grounds.{agrees}
@@ -64,18 +64,18 @@ module _ (s : Session) (from : Side) (p : Content) (a : groundsOf (eventOf from 
   reply-is : traitsOf (e .class) .reply ≡ isReply from (p .kind) (inwardOf p)
   reply-is k = a k .reply
 
-  pub matched-by : noSuchRequest e (matchOf t e) ≡ (isReply from (p .kind) (inwardOf p) && not (isSome (answeredAt t p)) && not (among (14 ∷ 17 ∷ 27 ∷ []) (p .kind) && eqb (p .id) 0 && eqb (field "status" p) 4))
+  pub matched-by : noSuchRequest e (matchOf t e) ≡ (isReply from (p .kind) (inwardOf p) && not (isSome (answeredAt t p)) && not (among (14 ∷ 17 ∷ 27 ∷ []) (p .kind) && eqb (p .id) 0 && stalled p))
   matched-by = cases (isReply from (p .kind) (inwardOf p)) there elsewhere
     where
-      there : isReply from (p .kind) (inwardOf p) ≡ true → noSuchRequest e (matchOf t e) ≡ (isReply from (p .kind) (inwardOf p) && not (isSome (answeredAt t p)) && not (among (14 ∷ 17 ∷ 27 ∷ []) (p .kind) && eqb (p .id) 0 && eqb (field "status" p) 4))
+      there : isReply from (p .kind) (inwardOf p) ≡ true → noSuchRequest e (matchOf t e) ≡ (isReply from (p .kind) (inwardOf p) && not (isSome (answeredAt t p)) && not (among (14 ∷ 17 ∷ 27 ∷ []) (p .kind) && eqb (p .id) 0 && stalled p))
       there r =
           let m : isUnmatched (matchOf t e) ≡ not (isSome (answeredAt t p)) = ap isUnmatched (match-by r) ∙ unmatched-is (answeredAt t p) in
           λ k. reply-is k && m k && not (unsolicited-is s from p a r k)
 
-      elsewhere : isReply from (p .kind) (inwardOf p) ≡ false → noSuchRequest e (matchOf t e) ≡ (isReply from (p .kind) (inwardOf p) && not (isSome (answeredAt t p)) && not (among (14 ∷ 17 ∷ 27 ∷ []) (p .kind) && eqb (p .id) 0 && eqb (field "status" p) 4))
+      elsewhere : isReply from (p .kind) (inwardOf p) ≡ false → noSuchRequest e (matchOf t e) ≡ (isReply from (p .kind) (inwardOf p) && not (isSome (answeredAt t p)) && not (among (14 ∷ 17 ∷ 27 ∷ []) (p .kind) && eqb (p .id) 0 && stalled p))
       elsewhere r =
           ap (λ (b : Bool). b && isUnmatched (matchOf t e) && not (isUnsolicited e)) (reply-is ∙ r)
-          ∙ sym (ap (λ (b : Bool). b && not (isSome (answeredAt t p)) && not (among (14 ∷ 17 ∷ 27 ∷ []) (p .kind) && eqb (p .id) 0 && eqb (field "status" p) 4)) r)
+          ∙ sym (ap (λ (b : Bool). b && not (isSome (answeredAt t p)) && not (among (14 ∷ 17 ∷ 27 ∷ []) (p .kind) && eqb (p .id) 0 && stalled p)) r)
 
   pub short-by : tooLong e (matchOf t e) ≡ (isReply from (p .kind) (inwardOf p) && longerThan t p (answeredAt t p))
   unfolding matchOf

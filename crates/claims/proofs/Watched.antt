@@ -35,11 +35,11 @@ use Rattle.kinds.proofs.RoundTrip.{clean}
 use Rattle.events.specs.Meaning.{meanings}
 use Rattle.events.specs.Event.{field, meaningOf, eventOf}
 use Rattle.checks.specs.Checks.{matchOf}
-use Rattle.checks.specs.Change.{moveBy, answersStart, moveOf, isStall}
+use Rattle.checks.specs.Change.{moveBy, answersStart, moveOf, isStalling}
 use Rattle.session.specs.declared.Session.{Session}
 use Rattle.session.specs.Session.{linkOf, isWide}
 use Rattle.session.specs.Step.{applied, nextFor, judged}
-use Rattle.claims.specs.Allowed.{among, endpointNamed, inwardOf}
+use Rattle.claims.specs.Allowed.{among, endpointNamed, inwardOf, stalled}
 use Rattle.claims.specs.Movements.{names}
 use Rattle.claims.specs.PacketLists.{SentPacket, nextBy, afterPackets, OutOfWire, AllOutOfWire}
 use Rattle.claims.specs.Watched.{isWatched, restarts, idsOf, Follows, restarted, WatchMoves, CountsKept, ReadByRow, passedOf, watchedOn, restartsOn, unexpected, BreaksCounted}
@@ -71,7 +71,7 @@ named-row (At r) n h =
 named-row Malformed n h = ne-eqb n 16 (omega arith)
 
 -- a status of 4 is a stall
-stall-is : (status : ℕ) (start : Bool) → isStall (moveBy status start) ≡ eqb status 4
+stall-is : (status : ℕ) (start : Bool) → isStalling (moveBy status start) ≡ eqb status 4
 stall-is status start = cases (eqb status 4) (λ t. rw t) (λ t. rw t (cases (eqb status 0 && start) (λ b. rw b) (λ b. rw b)))
 
 module _ (s : Session) (p : Content) (n : ℕ) (h : n < 16) where
@@ -92,10 +92,10 @@ module _ (s : Session) (p : Content) (n : ℕ) (h : n < 16) where
 
   -- the reply has the status of a stall
   abbrev stalls : Bool
-  stalls = isStall (moveOf (eventOf Host p) (matchOf (s .requests) (eventOf Host p)))
+  stalls = isStalling (moveOf (eventOf Host p) (matchOf (s .requests) (eventOf Host p)))
 
   -- after a status
-  reported : watchAt (cond stalls (begunOn w (endpointNamed p)) w) n ≡ cond (eqb (field "status" p) 4 && names p (16 + n)) (restarted (watchAt w n)) (watchAt w n)
+  reported : watchAt (cond stalls (begunOn w (endpointNamed p)) w) n ≡ cond (stalled p && names p (16 + n)) (restarted (watchAt w n)) (watchAt w n)
   unfolding eventOf
   reported =
       let status = field "status" p in
@@ -168,7 +168,7 @@ row-after s from p n h w =
 
 -- no hello, no disconnect and none after which 0 is expected
 abbrev Alone : Content → ℕ → Type 0
-Alone p k = (eqb k 0 ≡ false) × (eqb k 2 ≡ false) × ((among (12 ∷ 15 ∷ 25 ∷ []) k || (among (14 ∷ 17 ∷ 27 ∷ []) k && eqb (field "status" p) 4)) ≡ false)
+Alone p k = (eqb k 0 ≡ false) × (eqb k 2 ≡ false) × ((among (12 ∷ 15 ∷ 25 ∷ []) k || (among (14 ∷ 17 ∷ 27 ∷ []) k && stalled p)) ≡ false)
 
 -- so are 102, 103 and 104
 watched-alone : (from : Side) (p : Content) → isWatched from p ≡ true → Alone p (p .kind)

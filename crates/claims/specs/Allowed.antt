@@ -95,6 +95,13 @@ abbrev pub requestTarget : Content → ℕ
 requestTarget p =
     cond (among (12 ∷ 13 ∷ 15 ∷ 16 ∷ 25 ∷ 26 ∷ 100 ∷ 101 ∷ 103 ∷ []) (p .kind)) (field "endpoint" p) (cond (among (9 ∷ 10 ∷ []) (p .kind)) (field "interface" p) 0)
 
+-- what a reply says of its outcome: C-12, "0 is success and everything else an error"; "those with status 4"
+abbrev pub succeeded : Content → Bool
+succeeded p = eqb (field "status" p) 0
+
+abbrev pub stalled : Content → Bool
+stalled p = eqb (field "status" p) 4
+
 -- what a place keeps of it: "id, kind, endpoint or interface byte, and length"
 abbrev pub requestOf : Content → Request
 requestOf p = record { id = p .id; kind = p .kind; target = requestTarget p; length = countOf p }
@@ -113,7 +120,7 @@ pub record AnsweredBy (t : Requests) (p : Content) (i : ℕ) : Type 0 where
 pub record Unsolicited (t : Requests) (p : Content) : Type 0 where
   pub kind : among (14 ∷ 17 ∷ 27 ∷ []) (p .kind) ≡ true
   pub id : p .id ≡ 0
-  pub status : field "status" p ≡ 4
+  pub status : stalled p ≡ true
   pub unmatched : (i : ℕ) → AnsweredBy t p i → ⊥
 
 -- ---- what each session check asks of a packet

@@ -20,7 +20,7 @@ use Rattle.events.specs.Event.{Event, field, eventOf}
 use Rattle.session.specs.declared.Session.{Session}
 use Rattle.session.specs.Session.{linkOf}
 use Rattle.session.specs.Step.{judged}
-use Rattle.claims.specs.Allowed.{isRequest, isReply, inwardOf, countOf, requestOf, AnsweredBy, Unsolicited}
+use Rattle.claims.specs.Allowed.{isRequest, isReply, inwardOf, countOf, requestOf, AnsweredBy, Unsolicited, succeeded}
 
 -- ---- what is said of a request
 
@@ -46,7 +46,7 @@ RequestKeeps =
 pub record EndsWith (s : Session) (p : Content) (i j : ℕ) : Type 0 where
   pub live : placeAt (s .requests) j .live ≡ true
   pub kind : isData (placeAt (s .requests) j .request .kind) ≡ true
-  pub status : field "status" p ≡ 0
+  pub status : succeeded p ≡ true
   pub scope : (placeAt (s .requests) i .request .kind ≡ 6)
       ⊎ ((placeAt (s .requests) i .request .kind ≡ 9)
       × (touched (s .rows) (OfInterface (placeAt (s .requests) i .request .target)) (record { 0 = placeAt (s .requests) j .request .target }) ≡ true))

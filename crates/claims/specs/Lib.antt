@@ -6,6 +6,7 @@ pub mod Exchange
 pub mod KeptByPacket
 pub mod PacketLists
 pub mod Watched
+pub mod Outcomes
 pub mod TestsInWords
 pub mod FitBorders
 pub mod Examples

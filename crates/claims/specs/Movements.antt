@@ -27,7 +27,7 @@ use Rattle.events.specs.Event.{field, eventOf}
 use Rattle.session.specs.declared.Session.{Session}
 use Rattle.session.specs.Session.{linkOf, sharedIn}
 use Rattle.session.specs.Step.{judged}
-use Rattle.claims.specs.Allowed.{among, isRequest, isReply, endpointNamed, inwardOf}
+use Rattle.claims.specs.Allowed.{among, isRequest, isReply, endpointNamed, inwardOf, succeeded}
 use Rattle.claims.specs.NumberByKind.{answeredAt}
 
 -- what an endpoint table says of row r
@@ -60,6 +60,10 @@ streamType kind = cond (among (12 ∷ 14 ∷ []) kind) iso (cond (among (15 ∷ 
 abbrev pub startKind : ℕ → ℕ
 startKind status = cond (eqb status 14) 12 (cond (eqb status 17) 15 25)
 
+-- row r's stream is that of which a 14, 17 or 27 speaks: "only where the row's type is that kind's"
+abbrev pub reportsOn : Session → Content → ℕ → Bool
+reportsOn s p r = among (14 ∷ 17 ∷ 27 ∷ []) (p .kind) && names p r && eqb (rowAt (s .rows) r .ty) (streamType (p .kind))
+
 -- the first hello of a side is kept
 abbrev pub firstHello : HelloState → ℕ → HelloState
 firstHello Awaited word = Passed word
@@ -75,11 +79,11 @@ streamAfter s p r =
     -- "a passed start opens; .. only where the row's type is that kind's"
     (cond (among (12 ∷ 15 ∷ 25 ∷ []) (p .kind) && names p r && eqb (rowAt (s .rows) r .ty) (streamType (p .kind))) true
     -- "a status opens if it answers a start with 0 and otherwise closes; only where the row's type is that kind's"
-    (cond (among (14 ∷ 17 ∷ 27 ∷ []) (p .kind) && names p r && eqb (rowAt (s .rows) r .ty) (streamType (p .kind))) (eqb (field "status" p) 0 && eqb (answeredKind (s .requests) p) (startKind (p .kind)))
+    (cond (reportsOn s p r) (succeeded p && eqb (answeredKind (s .requests) p) (startKind (p .kind)))
     -- "8 with status 0 to a 6 .. closes all streams"
-    (cond (eqb (p .kind) 8 && eqb (field "status" p) 0 && eqb (answeredKind (s .requests) p) 6) false
+    (cond (eqb (p .kind) 8 && succeeded p && eqb (answeredKind (s .requests) p) 6) false
     -- "11 with status 0 to a 9 does so for rows other than 0 and 16 of that interface"
-    (cond (eqb (p .kind) 11 && eqb (field "status" p) 0 && eqb (answeredKind (s .requests) p) 9 && not (eqb r 0 || eqb r 16) && eqb (rowAt (s .rows) r .interface) (field "interface" p)) false
+    (cond (eqb (p .kind) 11 && succeeded p && eqb (answeredKind (s .requests) p) 9 && not (eqb r 0 || eqb r 16) && eqb (rowAt (s .rows) r .interface) (field "interface" p)) false
     -- all else leaves it
     (rowAt (s .rows) r .streaming))))))
 

@@ -24,7 +24,7 @@ use Rattle.checks.specs.Checks.{isBegun, isDone, mistypedBy, Check, _when_, fir
 use Rattle.session.specs.declared.Session.{Session}
 use Rattle.session.specs.Session.{linkOf}
 use Rattle.session.specs.Step.{judged}
-use Rattle.claims.specs.Allowed.{among, isRequest, isReply, answersKind, carriesTarget, wants, comesOnStream, endpointNamed, inwardOf, replyTarget, countOf}
+use Rattle.claims.specs.Allowed.{among, isRequest, isReply, answersKind, carriesTarget, wants, comesOnStream, endpointNamed, inwardOf, replyTarget, countOf, stalled}
 
 -- ---- what the sentences ask
 
@@ -68,7 +68,7 @@ checksBy s from p =
     ∷ 30 when (comesOnStream from (p .kind) (inwardOf p) && not (stateAt (s .rows) (endpointNamed p) .streaming))
     ∷ 31 when (isRequest from (p .kind) && isSome (lowest (s .requests) (Id (p .id))))
     ∷ 32 when (isRequest from (p .kind) && not (isSome (lowest (s .requests) Free)))
-    ∷ 33 when (isReply from (p .kind) (inwardOf p) && not (isSome (answeredAt (s .requests) p)) && not (among (14 ∷ 17 ∷ 27 ∷ []) (p .kind) && eqb (p .id) 0 && eqb (field "status" p) 4))
+    ∷ 33 when (isReply from (p .kind) (inwardOf p) && not (isSome (answeredAt (s .requests) p)) && not (among (14 ∷ 17 ∷ 27 ∷ []) (p .kind) && eqb (p .id) 0 && stalled p))
     ∷ 34 when (isReply from (p .kind) (inwardOf p) && longerThan (s .requests) p (answeredAt (s .requests) p))
     ∷ []
 

@@ -20,7 +20,7 @@ use Rattle.events.specs.Event.{field, eventOf}
 use Rattle.session.specs.declared.Session.{Session}
 use Rattle.session.specs.Session.{linkOf}
 use Rattle.session.specs.Step.{judged}
-use Rattle.claims.specs.Allowed.{among, inwardOf}
+use Rattle.claims.specs.Allowed.{among, inwardOf, stalled}
 use Rattle.claims.specs.Movements.{names}
 use Rattle.claims.specs.PacketLists.{SentPacket, nextBy, afterPackets, AllOutOfWire}
 
@@ -32,7 +32,7 @@ isWatched from p = not (isGuest from) && (among (102 ∷ 104 ∷ []) (p .kind) |
 
 -- "each passed start, or 14, 17 or 27 with status 4"
 abbrev pub restarts : Content → Bool
-restarts p = among (12 ∷ 15 ∷ 25 ∷ []) (p .kind) || (among (14 ∷ 17 ∷ 27 ∷ []) (p .kind) && eqb (field "status" p) 4)
+restarts p = among (12 ∷ 15 ∷ 25 ∷ []) (p .kind) || (among (14 ∷ 17 ∷ 27 ∷ []) (p .kind) && stalled p)
 
 -- "at the width in force, 32 or 64 bits": how many ids a header of this kind can say
 abbrev pub idsOf : Session → Side → ℕ → ℕ

@@ -411,7 +411,7 @@ next-as m n k a b z =
     low e = omega (arith, a, e)
 
 -- the number of a packet that becomes whole: that of the wire checks, then that of the session checks
-arrived-number : (from : Side) (s : Session) (hold piece : List ℕ) → Arrives from s hold piece
+pub arrived-number : (from : Side) (s : Session) (hold piece : List ℕ) → Arrives from s hold piece
     → offerOf from s hold piece .number ≡ orNext (wireNumber (linkOf from s) (packetIn from s hold piece)) (firstOf (checksBy s from (packetIn from s hold piece)))
 arrived-number from s hold piece a =
     number-in-gate from s hold piece (ready-of from s hold piece (a .opens)) (sizeOfPacket (linkOf from s) (atHand from s hold piece)) (whole-of from s hold piece a)

@@ -12,6 +12,7 @@ use Rattle.header.specs.declared.Side.{Side}
 use Rattle.header.specs.declared.Side.the-variants.{Guest, Host}
 use Rattle.kinds.specs.Table.{words, Kind, kinds}
 use Rattle.kinds.specs.Content.{Content}
+use Rattle.kinds.specs.Slots.{from}
 use Rattle.kinds.specs.Number.{sends, tailOk, isNone}
 use Rattle.packet.specs.declared.Optional32.{Optional32}
 use Rattle.packet.specs.declared.Optional32.the-variants.{Absent, Present}
@@ -19,6 +20,7 @@ use Rattle.packet.specs.Rows.{wordOf as rowsWord}
 use Rattle.device.specs.Device.{control, iso, bulk, interrupt, invalid}
 use Rattle.events.specs.Meaning.{Class, Hello, Connect, Interfaces, Endpoints, Disconnect, Reset, Ack, Cancel, Filter, StartRequest, PlainRequest, StreamStatus, PlainReply, StreamOut, StreamIn, Who, sender, guest, host, host-in, Line, meanings, admits, lookUp}
 use Rattle.events.specs.Event.{eventOf}
+use Rattle.events.specs.Status.{isSuccess, isStall}
 
 -- ---- lines by their class
 
@@ -189,3 +191,14 @@ first-word from p k h = rw k (go (p .rest) h)
     go (a ∷ b ∷ []) h = absurd (false≢true h)
     go (a ∷ b ∷ c ∷ []) h = absurd (false≢true h)
     go (a ∷ b ∷ c ∷ d ∷ s) h = rw (whole (length s))
+
+-- ---- what a status says
+
+-- the numbers that pass the test
+abbrev picked : (ℕ → Bool) → List ℕ → List ℕ
+picked p [] = []
+picked p (x ∷ xs) = cond (p x) (x ∷ picked p xs) (picked p xs)
+
+-- of all bytes, 0 alone is success and 4 alone a stall
+pub outcomes : (picked isSuccess (from 256 0) ≡ (0 ∷ [])) × (picked isStall (from 256 0) ≡ (4 ∷ []))
+outcomes = (refl, refl)

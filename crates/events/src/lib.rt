@@ -5,6 +5,7 @@ ghost use Rattle.header.specs.Link.{isGuest};
 ghost use Rattle.kinds.specs.Codec.{layout};
 ghost use Rattle.packet.specs.Packet.{inPart, columnsOf, columnsIn};
 ghost use Rattle.events.specs.Event.{announcedIn, Shows, Announces};
+ghost use Rattle.events.specs.Status.{isSuccess, isStall};
 ghost use Rattle.events.specs.declared.Typed.the-variants.{Untyped, OfEndpoint, OfMask};
 ghost use Rattle.events.specs.declared.Case.the-variants as cases;
 use device::Rows;
@@ -34,6 +35,20 @@ pub struct Reply {
     pub told: Request,
     pub answers: Answerable,
     pub status: u8,
+}
+
+// "0 is success and everything else an error"
+pub fn is_success(status: u8) -> bool
+    ensures { λ r. ⌜ r ≡ isSuccess status ⌝ }
+{
+    status == 0
+}
+
+// "those with status 4"
+pub fn is_stall(status: u8) -> bool
+    ensures { λ r. ⌜ r ≡ isStall status ⌝ }
+{
+    status == 4
 }
 
 // What a packet is to the session.

@@ -96,7 +96,7 @@ numbers-back w (x ∷ xs) r h =
       numbers-back w xs r (h .1),
     )
 
-length-all : (w : ℕ) (xs : List ℕ) → length (bytesOfAll w xs) ≡ w * length xs
+pub length-all : (w : ℕ) (xs : List ℕ) → length (bytesOfAll w xs) ≡ w * length xs
 length-all w [] = sym (mul-zero w)
 length-all w (x ∷ xs) = rw (length-append, length-bytes w x, length-all w xs, mul-suc) (add-comm w (w * length xs))
 

@@ -26,7 +26,7 @@ use Rattle.header.specs.declared.HelloState.{HelloState}
 use Rattle.header.specs.declared.HelloState.the-variants.{Awaited, Passed}
 use Rattle.header.specs.declared.Link.{Link}
 use Rattle.header.specs.Link.{isGuest, offered, sharedSet, idWidth}
-use Rattle.kinds.specs.Table.{Sender, G, H, B, Bits, always, bit, bits, Rule, any, holding-zero, speed, at-most-32, endpoint-type, status, endpoint, endpoint-in, endpoint-onward, endpoint-out-of-guest, as-endpoint, nonzero, zero-without, Field, Tail, nothing, words, string, payload, payload-onward, Id, id-any, id-zero, Kind, kinds, none-such, u8}
+use Rattle.kinds.specs.Table.{Sender, G, H, B, Bits, always, bit, bits, Rule, any, holding-zero, speed, at-most-32, endpoint-type, endpoint, endpoint-in, endpoint-onward, endpoint-out-of-guest, as-endpoint, nonzero, zero-without, Field, Tail, nothing, words, string, payload, payload-onward, Id, id-any, id-zero, Kind, kinds, none-such, u8}
 use Rattle.kinds.specs.Content.{Value, Content, shared, size, sizeOf, named, find}
 use Rattle.kinds.specs.Number.{sends, surplus, wideId, complete, dataLength, onward, tailOk, sizeOk, zeroAt, holds, orElse, firstBad, badField, badFields, badTail, badId, bad, isNone, streamsAlone, inOrder, kindNumber, byKind, wireNumber}
 use Rattle.kinds.proofs.FieldBytes.{isNone-left, isNone-right}
@@ -214,7 +214,6 @@ rowsFit holding-zero n = true
 rowsFit speed n = true
 rowsFit at-most-32 n = true
 rowsFit endpoint-type n = leb n 32
-rowsFit status n = true
 rowsFit endpoint n = true
 rowsFit endpoint-in n = true
 rowsFit endpoint-onward n = true
@@ -431,10 +430,6 @@ type-is false x q =
     let t = either-is (leb x 3) (eqb x 255) (le-is x 3) (eq-is x 255) in
     (λ e. (t .0 e, λ a. absurd (false≢true (q .1 a))), λ h. t .1 (h .0))
 
-status-is : (from : Side) (x : ℕ) → ((isGuest from || leb x 6) ≡ true) ↔ (from ≡ Host → x ≤ 6)
-status-is Guest x = (λ e h. absurd (guest≢host h), λ h. refl)
-status-is Host x = (λ e h. leb-true x 6 e, λ h. le-leb x 6 (h refl))
-
 out-of-guest-is : (from : Side) (x : ℕ) → ((not (isGuest from) || onward from x) ≡ true) ↔ (from ≡ Guest → x / 128 ≡ 0)
 out-of-guest-is Guest x = (λ e h. eqb-true (x / 128) 0 e, λ h. eq-eqb (x / 128) 0 (h refl))
 out-of-guest-is Host x = (λ e h. absurd (guest≢host (sym h)), λ h. refl)
@@ -452,7 +447,6 @@ keeps-is holding-zero from caps e xs i n m h = (
 keeps-is speed from caps e xs i n m h = either-is (leb (getD xs i 0) 3) (eqb (getD xs i 0) 255) (le-is (getD xs i 0) 3) (eq-is (getD xs i 0) 255)
 keeps-is at-most-32 from caps e xs i n m h = le-is (getD xs i 0) 32
 keeps-is endpoint-type from caps e xs i n m h = type-is (eqb (i % 16) 0) (getD xs i 0) (λ e. of-row i (omega (arith, m, leb-true n 32 h)) (eqb-true (i % 16) 0 e), λ w. eq-eqb (i % 16) 0 (row-of i w))
-keeps-is status from caps e xs i n m h = status-is from (getD xs i 0)
 keeps-is endpoint from caps e xs i n m h = address-is (getD xs i 0)
 keeps-is endpoint-in from caps e xs i n m h = both-is (eqb (getD xs i 0 / 16 % 8) 0) (eqb (getD xs i 0 / 128) 1) (address-is (getD xs i 0)) (eq-is (getD xs i 0 / 128) 1)
 keeps-is endpoint-onward from caps e xs i n m h = both-is (eqb (getD xs i 0 / 16 % 8) 0) (onward from (getD xs i 0)) (address-is (getD xs i 0)) (onward-is from (getD xs i 0))

@@ -10,7 +10,7 @@ use lib.Dec.{eqb}
 use lib.Text.{eqt}
 use Rattle.header.specs.declared.Side.{Side}
 use Rattle.header.specs.declared.Side.the-variants.{Guest, Host}
-use Rattle.kinds.specs.Table.{Bits, always, bit, bits, Rule, any, holding-zero, speed, at-most-32, endpoint-type, status, endpoint, endpoint-in, endpoint-onward, endpoint-out-of-guest, as-endpoint, nonzero, zero-without, Field, Tail, nothing, words, string, payload, payload-onward, Id, id-any, id-zero, Kind, u8, u16, kinds}
+use Rattle.kinds.specs.Table.{Bits, always, bit, bits, Rule, any, holding-zero, speed, at-most-32, endpoint-type, endpoint, endpoint-in, endpoint-onward, endpoint-out-of-guest, as-endpoint, nonzero, zero-without, Field, Tail, nothing, words, string, payload, payload-onward, Id, id-any, id-zero, Kind, u8, u16, kinds}
 use Rattle.kinds.specs.Content.{one}
 use Rattle.kinds.specs.Number.{sends, holds, tailOk, badTail, isNone, streamsAlone}
 use Rattle.kinds.specs.Slots.{from}
@@ -33,14 +33,13 @@ tag holding-zero = 1
 tag speed = 2
 tag at-most-32 = 3
 tag endpoint-type = 4
-tag status = 5
-tag endpoint = 6
-tag endpoint-in = 7
-tag endpoint-onward = 8
-tag endpoint-out-of-guest = 9
-tag as-endpoint = 10
-tag nonzero = 11
-tag (zero-without j) = 12 + j
+tag endpoint = 5
+tag endpoint-in = 6
+tag endpoint-onward = 7
+tag endpoint-out-of-guest = 8
+tag as-endpoint = 9
+tag nonzero = 10
+tag (zero-without j) = 11 + j
 
 -- the field that each rule is about
 abbrev about : Rule → String
@@ -49,7 +48,6 @@ about holding-zero = "version"
 about speed = "speed"
 about at-most-32 = "count"
 about endpoint-type = "type"
-about status = "status"
 about endpoint = "endpoint"
 about endpoint-in = "endpoint"
 about endpoint-onward = "endpoint"
@@ -85,6 +83,11 @@ abbrev onStream : List Field → Bool
 onStream [] = false
 onStream (f ∷ fs) = eqt "stream" (about (f .rule)) || onStream fs
 
+-- some field is a status that has a rule
+abbrev statusRuled : List Field → Bool
+statusRuled [] = false
+statusRuled (f ∷ fs) = (eqt "status" (f .name) && not (eqb (tag (f .rule)) 0)) || statusRuled fs
+
 abbrev wantsZero : Id → Bool
 wantsZero id-any = false
 wantsZero id-zero = true
@@ -100,8 +103,8 @@ pub rules-by-kind : (allInPlace kinds ≡ true)
     × (under at-most-32 ≡ (4 ∷ []))
     -- "Endpoint types are ..", in an endpoint table
     × (under endpoint-type ≡ (5 ∷ []))
-    -- "A host's status is 0 to 6", in all kinds that have one
-    × (under status ≡ (8 ∷ 11 ∷ 14 ∷ 17 ∷ 20 ∷ 27 ∷ 100 ∷ 101 ∷ 102 ∷ 103 ∷ 104 ∷ []))
+    -- C-12: "every status byte is allowed": no kind has a rule for it
+    × (those (λ (k : Kind). statusRuled (k .fields)) kinds ≡ [])
     -- "An endpoint byte .. bits 4 to 6 are zero", in all kinds that have one
     × (those (λ (k : Kind). onEndpoint (k .fields)) kinds ≡ (12 ∷ 13 ∷ 14 ∷ 15 ∷ 16 ∷ 17 ∷ 25 ∷ 26 ∷ 27 ∷ 100 ∷ 101 ∷ 102 ∷ 103 ∷ 104 ∷ []))
     -- "Kinds 15, 16, 25 to 27 and 104 name an IN endpoint."
@@ -244,10 +247,9 @@ outs = 0 to 15
 abbrev ins : List ℕ
 ins = 128 to 143
 
--- "Speed is 0 to 3 or 255. Interface count is at most 32. Endpoint types are 0 .. 3 .. or 255 ..; rows 0 and 16 are control.
--- A host's status is 0 to 6; a guest's is any byte."; "bits 4 to 6 are zero"; ".. name an IN endpoint. Iso from the guest is OUT,
--- from the host IN; interrupt data from the guest is OUT."; "bit 7 of requesttype equals the endpoint's"; "Masks aren't 0";
--- "Stream is 0 .. without bit 0."; "A hello's version has a zero byte."
+-- "Speed is 0 to 3 or 255. Interface count is at most 32. Endpoint types are 0 .. 3 .. or 255 ..; rows 0 and 16 are control.";
+-- "bits 4 to 6 are zero"; ".. name an IN endpoint. Iso from the guest is OUT, from the host IN; interrupt data from the guest is OUT.";
+-- "bit 7 of requesttype equals the endpoint's"; "Masks aren't 0"; "Stream is 0 .. without bit 0."; "A hello's version has a zero byte."
 abbrev Borders : ℕ → Type 0
 Borders caps =
     (keeping speed Host caps 0 bytes ≡ (0 ∷ 1 ∷ 2 ∷ 3 ∷ 255 ∷ []))
@@ -256,8 +258,6 @@ Borders caps =
     × (types caps 0 ≡ (0 ∷ []))
     × (types caps 16 ≡ (0 ∷ []))
     × (rowsOf caps 2 ≡ ((1 to 15) ++ (17 to 31)))
-    × (keeping status Host caps 0 bytes ≡ (0 to 6))
-    × (keeping status Guest caps 0 bytes ≡ bytes)
     × (keeping endpoint Guest caps 0 bytes ≡ (outs ++ ins))
     × (keeping endpoint Host caps 0 bytes ≡ (outs ++ ins))
     × (keeping endpoint-in Guest caps 0 bytes ≡ ins)
@@ -278,8 +278,8 @@ pub rule-borders : Borders 0 × Borders 255
     × (keeping (zero-without 0) Guest 254 0 (bytes ++ larger) ≡ (0 ∷ []))
     × (keeping (zero-without 0) Guest 1 0 (bytes ++ larger) ≡ (bytes ++ larger))
 rule-borders = (
-  (refl, refl, refl, refl, refl, refl, refl, refl, refl, refl, refl, refl, refl, refl, refl, refl, refl, refl, refl, refl, refl, refl),
-  (refl, refl, refl, refl, refl, refl, refl, refl, refl, refl, refl, refl, refl, refl, refl, refl, refl, refl, refl, refl, refl, refl),
+  (refl, refl, refl, refl, refl, refl, refl, refl, refl, refl, refl, refl, refl, refl, refl, refl, refl, refl, refl, refl),
+  (refl, refl, refl, refl, refl, refl, refl, refl, refl, refl, refl, refl, refl, refl, refl, refl, refl, refl, refl, refl),
   refl,
   refl,
 )

@@ -98,8 +98,9 @@ kindsWith n (k ∷ ks) = cond (has n (k .fields)) (k .number ∷ kindsWith n ks)
 pub spelt : (allSpelt kinds ≡ true)
     × (kindsWith "length" kinds ≡ (100 ∷ 101 ∷ 102 ∷ 103 ∷ 104 ∷ []))
     × (kindsWith "length high" kinds ≡ (101 ∷ []))
+    × (kindsWith "status" kinds ≡ (8 ∷ 11 ∷ 14 ∷ 17 ∷ 20 ∷ 27 ∷ 100 ∷ 101 ∷ 102 ∷ 103 ∷ 104 ∷ []))
 unfolding kinds
-spelt = (refl, refl, refl)
+spelt = (refl, refl, refl, refl)
 
 -- ---- numbers
 
@@ -139,14 +140,15 @@ pub passing : (number Guest 0 (packetOf 7 7 [] []) ≡ 0)
     × (number Guest 0 (bulk 0 none (170 ∷ 187 ∷ [])) ≡ 0)
     × (number Host 0 (bulk 0 none []) ≡ 0)
     × (first (hello 0 (17 ∷ 0 ∷ 0 ∷ 0 ∷ [])) ≡ 0)
-    × (number Host 0 (packetOf 8 1 (one 6 ∷ one 1 ∷ []) []) ≡ 0)
+    × (number Host 0 (packetOf 8 1 (one 7 ∷ one 1 ∷ []) []) ≡ 0)  -- any status, from either end
+    × (number Host 0 (control 0 255) ≡ 0)
     × (number Guest 0 (control 0 255) ≡ 0)
     × (number Host 2 (connect 255 (one 0)) ≡ 0)
     × (number Host 17 (table 255 rows rows) ≡ 0)
     × (number Guest 1 (bulk 5 none (170 ∷ 187 ∷ [])) ≡ 0)
     × (number Guest 32 (packetOf 7 4294967296 [] []) ≡ 0)
 unfolding sharedSet idWidth wireNumber kindNumber bad kinds
-passing = (refl, refl, refl, refl, refl, refl, refl, refl, refl, refl)
+passing = (refl, refl, refl, refl, refl, refl, refl, refl, refl, refl, refl)
 
 pub refused : (number Guest 0 (packetOf 28 0 [] []) ≡ 20)
     × (number Host 0 (packetOf 7 0 [] []) ≡ 21)
@@ -161,7 +163,7 @@ pub refused : (number Guest 0 (packetOf 28 0 [] []) ≡ 20)
     × (number Guest 64 (packetOf 101 9 (one 2 ∷ one 0 ∷ one 65535 ∷ one 0 ∷ one 65535 ∷ []) []) ≡ 23)  -- a count of 4,294,967,295
     × (number Guest 4 (packetOf 23 0 [] []) ≡ 23)
     × (number Host 2 (connect 4 (one 0)) ≡ 24)
-    × (number Host 0 (packetOf 8 1 (one 7 ∷ one 1 ∷ []) []) ≡ 24)
+    × (number Host 0 (control 128 0) ≡ 24)
     × (number Guest 0 (packetOf 12 5 (one 18 ∷ one 1 ∷ one 1 ∷ []) []) ≡ 24)
     × (number Guest 1 (packetOf 18 1 (one 0 ∷ one 0 ∷ []) []) ≡ 24)
     × (number Guest 0 (bulk 5 none (170 ∷ 187 ∷ [])) ≡ 24)
@@ -192,7 +194,7 @@ lowest = (refl, refl, refl, refl, refl, refl, refl, refl, refl)
 
 pub places : (bad Host 17 (kindAt 5) (table 4 rows rows) ≡ some 17)
     × (bad Host 0 (kindAt 28) (control 128 7) ≡ some 2)
-    × (bad Host 0 (kindAt 28) (control 0 7) ≡ some 3)
+    × (bad Host 0 (kindAt 28) (control 0 7) ≡ none)
     × (bad Host 0 (kindAt 2) (packetOf 2 1 [] []) ≡ some 65535)
     × (bad Host 0 (kindAt 2) (packetOf 2 0 [] []) ≡ none)
     × (bad Host 2 (kindAt 1) (connect 0 none) ≡ some 8)

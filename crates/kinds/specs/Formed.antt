@@ -17,7 +17,7 @@ use Rattle.header.specs.declared.Side.the-variants.{Guest, Host}
 use Rattle.header.specs.declared.HelloState.the-variants.{Passed}
 use Rattle.header.specs.declared.Link.{Link}
 use Rattle.header.specs.Link.{sharedSet}
-use Rattle.kinds.specs.Table.{Sender, G, H, B, Bits, always, bit, bits, Rule, any, holding-zero, speed, at-most-32, endpoint-type, status, endpoint, endpoint-in, endpoint-onward, endpoint-out-of-guest, as-endpoint, nonzero, zero-without, Field, Tail, nothing, words, string, payload, payload-onward, id-zero, Kind, kindAt, u8}
+use Rattle.kinds.specs.Table.{Sender, G, H, B, Bits, always, bit, bits, Rule, any, holding-zero, speed, at-most-32, endpoint-type, endpoint, endpoint-in, endpoint-onward, endpoint-out-of-guest, as-endpoint, nonzero, zero-without, Field, Tail, nothing, words, string, payload, payload-onward, id-zero, Kind, kindAt, u8}
 use Rattle.kinds.specs.Content.{Content, named}
 use Rattle.kinds.specs.Number.{wireNumber}
 
@@ -125,8 +125,6 @@ Keeps speed from caps e xs i = (getD xs i 0 ≤ 3) ⊎ (getD xs i 0 ≡ 255)
 Keeps at-most-32 from caps e xs i = getD xs i 0 ≤ 32
 -- "Endpoint types are 0 control, 1 iso, 2 bulk, 3 interrupt or 255 invalid; rows 0 and 16 are control."
 Keeps endpoint-type from caps e xs i = ((getD xs i 0 ≤ 3) ⊎ (getD xs i 0 ≡ 255)) × ((i ≡ 0) ⊎ (i ≡ 16) → getD xs i 0 ≡ 0)
--- "A host's status is 0 to 6; a guest's is any byte."
-Keeps status from caps e xs i = from ≡ Host → getD xs i 0 ≤ 6
 Keeps endpoint from caps e xs i = Address (getD xs i 0)
 -- "Kinds 15, 16, 25 to 27 and 104 name an IN endpoint."
 Keeps endpoint-in from caps e xs i = Address (getD xs i 0) × (getD xs i 0 / 128 ≡ 1)

@@ -7,3 +7,4 @@ pub mod Examples
 pub mod Slots
 pub mod ByRule
 pub mod Formed
+pub mod AnyStatus

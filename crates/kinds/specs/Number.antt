@@ -13,7 +13,7 @@ use Rattle.header.specs.declared.Side.{Side}
 use Rattle.header.specs.declared.Side.the-variants.{Guest, Host}
 use Rattle.header.specs.declared.Link.{Link}
 use Rattle.header.specs.Link.{isGuest, sharedSet, idWidth}
-use Rattle.kinds.specs.Table.{Sender, G, H, B, Rule, any, holding-zero, speed, at-most-32, endpoint-type, status, endpoint, endpoint-in, endpoint-onward, endpoint-out-of-guest, as-endpoint, nonzero, zero-without, Field, Tail, nothing, words, string, payload, payload-onward, Id, id-any, id-zero, Kind, kinds}
+use Rattle.kinds.specs.Table.{Sender, G, H, B, Rule, any, holding-zero, speed, at-most-32, endpoint-type, endpoint, endpoint-in, endpoint-onward, endpoint-out-of-guest, as-endpoint, nonzero, zero-without, Field, Tail, nothing, words, string, payload, payload-onward, Id, id-any, id-zero, Kind, kinds}
 use Rattle.kinds.specs.Content.{Value, Content, shared, sizeOf, size, named, find}
 
 -- ---- 21: wrong sender
@@ -85,7 +85,6 @@ holds holding-zero from caps e xs i = ltb (zeroAt xs) (length xs)
 holds speed from caps e xs i = leb (getD xs i 0) 3 || eqb (getD xs i 0) 255
 holds at-most-32 from caps e xs i = leb (getD xs i 0) 32
 holds endpoint-type from caps e xs i = cond (eqb (i % 16) 0) (eqb (getD xs i 0) 0) (leb (getD xs i 0) 3 || eqb (getD xs i 0) 255)
-holds status from caps e xs i = isGuest from || leb (getD xs i 0) 6
 holds endpoint from caps e xs i = addressOk (getD xs i 0)
 holds endpoint-in from caps e xs i = addressOk (getD xs i 0) && eqb (getD xs i 0 / 128) 1
 holds endpoint-onward from caps e xs i = addressOk (getD xs i 0) && onward from (getD xs i 0)

@@ -22,7 +22,6 @@ pub data Rule : Type 0 where
   speed : Rule  -- "Speed is 0 to 3 or 255."
   at-most-32 : Rule  -- "Interface count is at most 32."
   endpoint-type : Rule  -- "Endpoint types are 0 .. 3 .. or 255 ..; rows 0 and 16 are control."
-  status : Rule  -- "A host's status is 0 to 6; a guest's is any byte."
   endpoint : Rule  -- "bits 4 to 6 are zero"
   endpoint-in : Rule  -- and "Kinds 15, 16, 25 to 27 and 104 name an IN endpoint."
   endpoint-onward : Rule  -- and "Iso from the guest is OUT, from the host IN"
@@ -113,31 +112,31 @@ kinds =
     ∷ idless 5 H (u8 "type" times 32 is endpoint-type ∷ u8 "interval" times 32 ∷ u8 "interface" times 32 ∷ u16 "max packet" times 32 with bit 4 ∷ u32 "max streams" times 32 with bits 4 0 ∷ [])
     ∷ kind 6 G (u8 "configuration" ∷ [])
     ∷ kind 7 G []
-    ∷ kind 8 H (u8 "status" is status ∷ u8 "configuration" ∷ [])
+    ∷ kind 8 H (u8 "status" ∷ u8 "configuration" ∷ [])
     ∷ kind 9 G (u8 "interface" ∷ u8 "alt" ∷ [])
     ∷ kind 10 G (u8 "interface" ∷ [])
-    ∷ kind 11 H (u8 "status" is status ∷ u8 "interface" ∷ u8 "alt" ∷ [])
+    ∷ kind 11 H (u8 "status" ∷ u8 "interface" ∷ u8 "alt" ∷ [])
     ∷ kind 12 G (u8 "endpoint" is endpoint ∷ u8 "packets" ∷ u8 "urbs" ∷ [])
     ∷ kind 13 G (u8 "endpoint" is endpoint ∷ [])
-    ∷ kind 14 H (u8 "status" is status ∷ u8 "endpoint" is endpoint ∷ [])
+    ∷ kind 14 H (u8 "status" ∷ u8 "endpoint" is endpoint ∷ [])
     ∷ kind 15 G (u8 "endpoint" is endpoint-in ∷ [])
     ∷ kind 16 G (u8 "endpoint" is endpoint-in ∷ [])
-    ∷ kind 17 H (u8 "status" is status ∷ u8 "endpoint" is endpoint ∷ [])
+    ∷ kind 17 H (u8 "status" ∷ u8 "endpoint" is endpoint ∷ [])
     ∷ kind 18 G (u32 "mask" is nonzero ∷ u32 "count" ∷ []) needs bit 0
     ∷ kind 19 G (u32 "mask" is nonzero ∷ []) needs bit 0
-    ∷ kind 20 H (u32 "mask" ∷ u32 "count" ∷ u8 "status" is status ∷ []) needs bit 0
+    ∷ kind 20 H (u32 "mask" ∷ u32 "count" ∷ u8 "status" ∷ []) needs bit 0
     ∷ kind 21 G []
     ∷ idless 22 G [] needs bit 2
     ∷ idless 23 B [] needs bit 2 then string
     ∷ idless 24 G [] needs bit 3
     ∷ kind 25 G (u32 "stream" ∷ u32 "bytes" ∷ u8 "endpoint" is endpoint-in ∷ u8 "transfers" ∷ []) needs bit 7
     ∷ kind 26 G (u32 "stream" ∷ u8 "endpoint" is endpoint-in ∷ []) needs bit 7
-    ∷ kind 27 H (u32 "stream" ∷ u8 "endpoint" is endpoint-in ∷ u8 "status" is status ∷ []) needs bit 7
-    ∷ kind 100 B (u8 "endpoint" is endpoint ∷ u8 "request" ∷ u8 "requesttype" is as-endpoint ∷ u8 "status" is status ∷ u16 "value" ∷ u16 "index" ∷ u16 "length" ∷ []) then payload-onward
-    ∷ kind 101 B (u8 "endpoint" is endpoint ∷ u8 "status" is status ∷ u16 "length" ∷ u32 "stream" is zero-without 0 ∷ u16 "length high" with bit 6 ∷ []) then payload-onward
-    ∷ kind 102 B (u8 "endpoint" is endpoint-onward ∷ u8 "status" is status ∷ u16 "length" ∷ []) then payload
-    ∷ kind 103 B (u8 "endpoint" is endpoint-out-of-guest ∷ u8 "status" is status ∷ u16 "length" ∷ []) then payload-onward
-    ∷ kind 104 H (u32 "stream" ∷ u32 "length" ∷ u8 "endpoint" is endpoint-in ∷ u8 "status" is status ∷ []) needs bit 7 then payload
+    ∷ kind 27 H (u32 "stream" ∷ u8 "endpoint" is endpoint-in ∷ u8 "status" ∷ []) needs bit 7
+    ∷ kind 100 B (u8 "endpoint" is endpoint ∷ u8 "request" ∷ u8 "requesttype" is as-endpoint ∷ u8 "status" ∷ u16 "value" ∷ u16 "index" ∷ u16 "length" ∷ []) then payload-onward
+    ∷ kind 101 B (u8 "endpoint" is endpoint ∷ u8 "status" ∷ u16 "length" ∷ u32 "stream" is zero-without 0 ∷ u16 "length high" with bit 6 ∷ []) then payload-onward
+    ∷ kind 102 B (u8 "endpoint" is endpoint-onward ∷ u8 "status" ∷ u16 "length" ∷ []) then payload
+    ∷ kind 103 B (u8 "endpoint" is endpoint-out-of-guest ∷ u8 "status" ∷ u16 "length" ∷ []) then payload-onward
+    ∷ kind 104 H (u32 "stream" ∷ u32 "length" ∷ u8 "endpoint" is endpoint-in ∷ u8 "status" ∷ []) needs bit 7 then payload
     ∷ []
 
 -- ---- places in it

@@ -90,9 +90,9 @@ pub get-configuration : (from : Side) (caps id : ℕ) (body : List ℕ) → Find
 unfolding kinds layout contentOf bad
 get-configuration from caps id body = record { small = lit< tt; kind = refl; surplus = refl; sized = refl; fault = λ h. refl; alone = refl }
 
-pub configuration-status : (from : Side) (caps id : ℕ) (x : ConfigurationStatusFields) (body : List ℕ) → Finds from caps id (ConfigurationStatus x) body (findings 8 false true (cond (isGuest from || leb (x .status) 6) None (At 0)) false)
+pub configuration-status : (from : Side) (caps id : ℕ) (x : ConfigurationStatusFields) (body : List ℕ) → Finds from caps id (ConfigurationStatus x) body (findings 8 false true None false)
 unfolding kinds layout contentOf bad
-configuration-status from caps id x body = record { small = lit< tt; kind = refl; surplus = refl; sized = refl; fault = λ h. simp (or-assoc, fault-else); alone = refl }
+configuration-status from caps id x body = record { small = lit< tt; kind = refl; surplus = refl; sized = refl; fault = λ h. refl; alone = refl }
 
 pub set-alt : (from : Side) (caps id : ℕ) (x : SetAltFields) (body : List ℕ) → Finds from caps id (SetAlt x) body (findings 9 false true None false)
 unfolding kinds layout contentOf bad
@@ -102,9 +102,9 @@ pub get-alt : (from : Side) (caps id : ℕ) (x : GetAltFields) (body : List ℕ)
 unfolding kinds layout contentOf bad
 get-alt from caps id x body = record { small = lit< tt; kind = refl; surplus = refl; sized = refl; fault = λ h. refl; alone = refl }
 
-pub alt-status : (from : Side) (caps id : ℕ) (x : AltStatusFields) (body : List ℕ) → Finds from caps id (AltStatus x) body (findings 11 false true (cond (isGuest from || leb (x .status) 6) None (At 0)) false)
+pub alt-status : (from : Side) (caps id : ℕ) (x : AltStatusFields) (body : List ℕ) → Finds from caps id (AltStatus x) body (findings 11 false true None false)
 unfolding kinds layout contentOf bad
-alt-status from caps id x body = record { small = lit< tt; kind = refl; surplus = refl; sized = refl; fault = λ h. simp (or-assoc, fault-else); alone = refl }
+alt-status from caps id x body = record { small = lit< tt; kind = refl; surplus = refl; sized = refl; fault = λ h. refl; alone = refl }
 
 pub start-iso : (from : Side) (caps id : ℕ) (x : StartIsoFields) (body : List ℕ) → Finds from caps id (StartIso x) body (findings 12 false true (cond (addressOk (x .endpoint .0)) None (At 0)) false)
 unfolding kinds layout contentOf bad
@@ -114,7 +114,7 @@ pub stop-iso : (from : Side) (caps id : ℕ) (x : StopIsoFields) (body : List �
 unfolding kinds layout contentOf bad
 stop-iso from caps id x body = record { small = lit< tt; kind = refl; surplus = refl; sized = refl; fault = λ h. simp (or-assoc, fault-else); alone = refl }
 
-pub iso-status : (from : Side) (caps id : ℕ) (x : IsoStatusFields) (body : List ℕ) → Finds from caps id (IsoStatus x) body (findings 14 false true (cond (isGuest from || leb (x .status) 6) (cond (addressOk (x .endpoint .0)) None (At 1)) (At 0)) false)
+pub iso-status : (from : Side) (caps id : ℕ) (x : IsoStatusFields) (body : List ℕ) → Finds from caps id (IsoStatus x) body (findings 14 false true (cond (addressOk (x .endpoint .0)) None (At 1)) false)
 unfolding kinds layout contentOf bad
 iso-status from caps id x body = record { small = lit< tt; kind = refl; surplus = refl; sized = refl; fault = λ h. simp (or-assoc, fault-else); alone = refl }
 
@@ -126,7 +126,7 @@ pub stop-interrupt : (from : Side) (caps id : ℕ) (x : StopInterruptFields) (bo
 unfolding kinds layout contentOf bad
 stop-interrupt from caps id x body = record { small = lit< tt; kind = refl; surplus = refl; sized = refl; fault = λ h. simp (or-assoc, fault-else); alone = refl }
 
-pub interrupt-status : (from : Side) (caps id : ℕ) (x : InterruptStatusFields) (body : List ℕ) → Finds from caps id (InterruptStatus x) body (findings 17 false true (cond (isGuest from || leb (x .status) 6) (cond (addressOk (x .endpoint .0)) None (At 1)) (At 0)) false)
+pub interrupt-status : (from : Side) (caps id : ℕ) (x : InterruptStatusFields) (body : List ℕ) → Finds from caps id (InterruptStatus x) body (findings 17 false true (cond (addressOk (x .endpoint .0)) None (At 1)) false)
 unfolding kinds layout contentOf bad
 interrupt-status from caps id x body = record { small = lit< tt; kind = refl; surplus = refl; sized = refl; fault = λ h. simp (or-assoc, fault-else); alone = refl }
 
@@ -138,9 +138,9 @@ pub free-streams : (from : Side) (caps id : ℕ) (x : FreeStreamsFields) (body :
 unfolding kinds layout contentOf bad
 free-streams from caps id x body = record { small = lit< tt; kind = refl; surplus = refl; sized = refl; fault = λ h. simp (or-assoc, fault-else); alone = refl }
 
-pub streams-status : (from : Side) (caps id : ℕ) (x : StreamsStatusFields) (body : List ℕ) → Finds from caps id (StreamsStatus x) body (findings 20 false true (cond (isGuest from || leb (x .status) 6) None (At 8)) false)
+pub streams-status : (from : Side) (caps id : ℕ) (x : StreamsStatusFields) (body : List ℕ) → Finds from caps id (StreamsStatus x) body (findings 20 false true None false)
 unfolding kinds layout contentOf bad
-streams-status from caps id x body = record { small = lit< tt; kind = refl; surplus = refl; sized = refl; fault = λ h. simp (or-assoc, fault-else); alone = refl }
+streams-status from caps id x body = record { small = lit< tt; kind = refl; surplus = refl; sized = refl; fault = λ h. refl; alone = refl }
 
 pub cancel : (from : Side) (caps id : ℕ) (body : List ℕ) → Finds from caps id Cancel body (findings 21 false true None false)
 unfolding kinds layout contentOf bad
@@ -162,7 +162,7 @@ pub stop-bulk-receiving : (from : Side) (caps id : ℕ) (x : StopBulkReceivingFi
 unfolding kinds layout contentOf bad
 stop-bulk-receiving from caps id x body = record { small = lit< tt; kind = refl; surplus = refl; sized = refl; fault = λ h. simp (or-assoc, fault-else); alone = refl }
 
-pub bulk-receiving-status : (from : Side) (caps id : ℕ) (x : BulkReceivingStatusFields) (body : List ℕ) → Finds from caps id (BulkReceivingStatus x) body (findings 27 false true (cond (addressOk (x .endpoint .0) && eqb (x .endpoint .0 / 128) 1) (cond (isGuest from || leb (x .status) 6) None (At 5)) (At 4)) false)
+pub bulk-receiving-status : (from : Side) (caps id : ℕ) (x : BulkReceivingStatusFields) (body : List ℕ) → Finds from caps id (BulkReceivingStatus x) body (findings 27 false true (cond (addressOk (x .endpoint .0) && eqb (x .endpoint .0 / 128) 1) None (At 4)) false)
 unfolding kinds layout contentOf bad
 bulk-receiving-status from caps id x body = record { small = lit< tt; kind = refl; surplus = refl; sized = refl; fault = λ h. simp (or-assoc, fault-else); alone = refl }
 
@@ -171,28 +171,28 @@ bulk-receiving-status from caps id x body = record { small = lit< tt; kind = ref
 pub control : (from : Side) (caps id : ℕ) (x : ControlFields) (body : List ℕ)
     → Finds from caps id (Control x) body
     (findings 28 false (eqb (length (inPart (x .payload) body)) (cond (onward from (x .endpoint .0)) (x .length) 0))
-    (cond (addressOk (x .endpoint .0)) (cond (eqb (x .requesttype / 128) (x .endpoint .0 / 128)) (cond (isGuest from || leb (x .status) 6) None (At 3)) (At 2)) (At 0)) false)
+    (cond (addressOk (x .endpoint .0)) (cond (eqb (x .requesttype / 128) (x .endpoint .0 / 128)) None (At 2)) (At 0)) false)
 unfolding kinds layout contentOf bad
 control from caps id x body = record { small = lit< tt; kind = refl; surplus = refl; sized = simp add-zero; fault = λ h. simp (or-assoc, fault-else); alone = refl }
 
 pub iso : (from : Side) (caps id : ℕ) (x : IsoFields) (body : List ℕ)
     → Finds from caps id (Iso x) body
     (findings 30 false (eqb (length (inPart (x .payload) body)) (x .length))
-    (cond (addressOk (x .endpoint .0) && onward from (x .endpoint .0)) (cond (isGuest from || leb (x .status) 6) None (At 1)) (At 0)) false)
+    (cond (addressOk (x .endpoint .0) && onward from (x .endpoint .0)) None (At 0)) false)
 unfolding kinds layout contentOf bad
 iso from caps id x body = record { small = lit< tt; kind = refl; surplus = refl; sized = simp add-zero; fault = λ h. simp (or-assoc, fault-else); alone = refl }
 
 pub interrupt : (from : Side) (caps id : ℕ) (x : InterruptFields) (body : List ℕ)
     → Finds from caps id (Interrupt x) body
     (findings 31 false (eqb (length (inPart (x .payload) body)) (cond (onward from (x .endpoint .0)) (x .length) 0))
-    (cond (addressOk (x .endpoint .0) && (not (isGuest from) || onward from (x .endpoint .0))) (cond (isGuest from || leb (x .status) 6) None (At 1)) (At 0)) false)
+    (cond (addressOk (x .endpoint .0) && (not (isGuest from) || onward from (x .endpoint .0))) None (At 0)) false)
 unfolding kinds layout contentOf bad
 interrupt from caps id x body = record { small = lit< tt; kind = refl; surplus = refl; sized = simp add-zero; fault = λ h. simp (or-assoc, fault-else); alone = refl }
 
 pub buffered-bulk : (from : Side) (caps id : ℕ) (x : BufferedBulkFields) (body : List ℕ)
     → Finds from caps id (BufferedBulk x) body
     (findings 32 false (eqb (length (inPart (x .payload) body)) (x .length))
-    (cond (addressOk (x .endpoint .0) && eqb (x .endpoint .0 / 128) 1) (cond (isGuest from || leb (x .status) 6) None (At 9)) (At 8)) false)
+    (cond (addressOk (x .endpoint .0) && eqb (x .endpoint .0 / 128) 1) None (At 8)) false)
 unfolding kinds layout contentOf bad
 buffered-bulk from caps id x body = record { small = lit< tt; kind = refl; surplus = refl; sized = simp add-zero; fault = λ h. simp (or-assoc, fault-else); alone = refl }
 
@@ -204,7 +204,7 @@ count-back false n h = let l : n < 65536 = h refl in omega arith
 pub bulk : (from : Side) (caps id : ℕ) (x : BulkFields) (body : List ℕ)
     → Finds from caps id (Bulk x) body
     (findings 29 (not (hasBit caps 6) && ltb 65535 (x .length)) (eqb (length (inPart (x .payload) body)) (cond (onward from (x .endpoint .0)) (x .length) 0))
-    (cond (addressOk (x .endpoint .0)) (cond (isGuest from || leb (x .status) 6) (cond (hasBit caps 0 || eqb (x .stream) 0) None (At 4)) (At 1)) (At 0)) false)
+    (cond (addressOk (x .endpoint .0)) (cond (hasBit caps 0 || eqb (x .stream) 0) None (At 4)) (At 0)) false)
 unfolding kinds layout contentOf bad
 bulk from caps id x body =
     let n : ℕ = x .length in

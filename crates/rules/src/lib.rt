@@ -8,7 +8,7 @@ ghost use lib.Dec.{leb, eqb};
 ghost use Rattle.octets.specs.Little.{le};
 ghost use Rattle.octets.specs.Bits.{hasBit};
 ghost use Rattle.header.specs.declared.Side.{Side};
-ghost use Rattle.header.specs.Link.{isGuest, sharedSet};
+ghost use Rattle.header.specs.Link.{sharedSet};
 ghost use Rattle.kinds.specs.Number.{onward, addressOk, zeroAt, inOrder, wireNumber};
 ghost use Rattle.packet.specs.declared.Packet.{Packet};
 ghost use Rattle.packet.specs.declared.Packet.the-variants as packets;
@@ -82,13 +82,6 @@ fn zero_id(id: u64) -> Fault
     ensures { λ r. ⌜ r ≡ noId id ⌝ }
 {
     checked(id == 0, 65535, Fault::None)
-}
-
-// "A host's status is 0 to 6; a guest's is any byte."
-fn status_at(from: Side, status: u8, place: u16, next: Fault) -> Fault
-    ensures { λ r. ⌜ r ≡ cond (isGuest from || leb status 6) next (At place) ⌝ }
-{
-    checked(is_guest(from) | (status <= 6), place, next)
 }
 
 // An endpoint of either direction.
@@ -272,11 +265,7 @@ fn control(from: Side, id: u64, c: Control, body: &[u8]) -> Findings
 {
     let endpoint = c.endpoint;
     let part = c.payload;
-    let last = checked(
-        c.requesttype >> 7 == endpoint.0 >> 7,
-        2,
-        status_at(from, c.status, 3, Fault::None),
-    );
+    let last = checked(c.requesttype >> 7 == endpoint.0 >> 7, 2, Fault::None);
     judged(
         28,
         part_of(body, part).len() == onward_data(from, endpoint, c.length as u32) as usize,
@@ -295,7 +284,7 @@ fn bulk(from: Side, caps: u32, id: u64, b: Bulk, body: &[u8]) -> Findings
         slot: 29,
         surplus: !has_bit(caps, 6) & (65535 < length),
         sized: part_of(body, part).len() == onward_data(from, endpoint, length) as usize,
-        fault: endpoint_at(endpoint, 0, status_at(from, b.status, 1, last)),
+        fault: endpoint_at(endpoint, 0, last),
         alone: false,
     }
 }
@@ -309,7 +298,7 @@ fn iso(from: Side, id: u64, p: Iso, body: &[u8]) -> Findings
     judged(
         30,
         part_of(body, part).len() == p.length as usize,
-        checked(ok, 0, status_at(from, p.status, 1, Fault::None)),
+        checked(ok, 0, Fault::None),
     )
 }
 
@@ -322,19 +311,19 @@ fn interrupt(from: Side, id: u64, p: Interrupt, body: &[u8]) -> Findings
     judged(
         31,
         part_of(body, part).len() == onward_data(from, endpoint, p.length as u32) as usize,
-        checked(ok, 0, status_at(from, p.status, 1, Fault::None)),
+        checked(ok, 0, Fault::None),
     )
 }
 
-fn buffered_bulk(from: Side, id: u64, p: BufferedBulk, body: &[u8]) -> Findings
-    ensures { λ r. ⌜ ((caps : ℕ) → Finds from caps id (packets.BufferedBulk p) (now (body .entry)) r) ⌝ }
+fn buffered_bulk(id: u64, p: BufferedBulk, body: &[u8]) -> Findings
+    ensures { λ r. ⌜ ((from : Side) (caps : ℕ) → Finds from caps id (packets.BufferedBulk p) (now (body .entry)) r) ⌝ }
 {
     let endpoint = p.endpoint;
     let part = p.payload;
     judged(
         32,
         part_of(body, part).len() == p.length as usize,
-        in_at(endpoint, 8, status_at(from, p.status, 9, Fault::None)),
+        in_at(endpoint, 8, Fault::None),
     )
 }
 
@@ -351,10 +340,10 @@ fn findings_of(from: Side, caps: u32, id: u64, p: Packet, body: &[u8]) -> Findin
         Packet::EndpointTable(x) => endpoints(caps, id, x, body),
         Packet::SetConfiguration(_) => plain(6, Fault::None),
         Packet::GetConfiguration => plain(7, Fault::None),
-        Packet::ConfigurationStatus(x) => plain(8, status_at(from, x.status, 0, Fault::None)),
+        Packet::ConfigurationStatus(_) => plain(8, Fault::None),
         Packet::SetAlt(_) => plain(9, Fault::None),
         Packet::GetAlt(_) => plain(10, Fault::None),
-        Packet::AltStatus(x) => plain(11, status_at(from, x.status, 0, Fault::None)),
+        Packet::AltStatus(_) => plain(11, Fault::None),
         Packet::StartIso(x) => {
             let endpoint = x.endpoint;
             plain(12, endpoint_at(endpoint, 0, Fault::None))
@@ -363,10 +352,10 @@ fn findings_of(from: Side, caps: u32, id: u64, p: Packet, body: &[u8]) -> Findin
             let endpoint = x.endpoint;
             plain(13, endpoint_at(endpoint, 0, Fault::None))
         }
-        Packet::IsoStatus(x) => plain(
-            14,
-            status_at(from, x.status, 0, endpoint_at(x.endpoint, 1, Fault::None)),
-        ),
+        Packet::IsoStatus(x) => {
+            let endpoint = x.endpoint;
+            plain(14, endpoint_at(endpoint, 1, Fault::None))
+        }
         Packet::StartInterrupt(x) => {
             let endpoint = x.endpoint;
             plain(15, in_at(endpoint, 0, Fault::None))
@@ -375,13 +364,13 @@ fn findings_of(from: Side, caps: u32, id: u64, p: Packet, body: &[u8]) -> Findin
             let endpoint = x.endpoint;
             plain(16, in_at(endpoint, 0, Fault::None))
         }
-        Packet::InterruptStatus(x) => plain(
-            17,
-            status_at(from, x.status, 0, endpoint_at(x.endpoint, 1, Fault::None)),
-        ),
+        Packet::InterruptStatus(x) => {
+            let endpoint = x.endpoint;
+            plain(17, endpoint_at(endpoint, 1, Fault::None))
+        }
         Packet::AllocStreams(x) => plain(18, checked(x.mask != 0, 0, Fault::None)),
         Packet::FreeStreams(x) => plain(19, checked(x.mask != 0, 0, Fault::None)),
-        Packet::StreamsStatus(x) => plain(20, status_at(from, x.status, 8, Fault::None)),
+        Packet::StreamsStatus(_) => plain(20, Fault::None),
         Packet::Cancel => plain(21, Fault::None),
         Packet::FilterReject => plain(22, zero_id(id)),
         Packet::Filter(x) => filter(id, x, body),
@@ -394,15 +383,15 @@ fn findings_of(from: Side, caps: u32, id: u64, p: Packet, body: &[u8]) -> Findin
             let endpoint = x.endpoint;
             plain(26, in_at(endpoint, 4, Fault::None))
         }
-        Packet::BulkReceivingStatus(x) => plain(
-            27,
-            in_at(x.endpoint, 4, status_at(from, x.status, 5, Fault::None)),
-        ),
+        Packet::BulkReceivingStatus(x) => {
+            let endpoint = x.endpoint;
+            plain(27, in_at(endpoint, 4, Fault::None))
+        }
         Packet::Control(x) => control(from, id, x, body),
         Packet::Bulk(x) => bulk(from, caps, id, x, body),
         Packet::Iso(x) => iso(from, id, x, body),
         Packet::Interrupt(x) => interrupt(from, id, x, body),
-        Packet::BufferedBulk(x) => buffered_bulk(from, id, x, body),
+        Packet::BufferedBulk(x) => buffered_bulk(id, x, body),
     }
 }
 
@@ -497,8 +486,7 @@ pub fn interrupt_number(l: Link, id: u64, p: Interrupt, body: &[u8]) -> u8
 pub fn buffered_number(l: Link, id: u64, p: BufferedBulk, body: &[u8]) -> u8
     ensures { λ r. ⌜ r ≡ wireNumber l (contentOf (sharedSet l) id (packets.BufferedBulk p) (now (body .entry))) ⌝ }
 {
-    let from = l.sender;
-    number_by(l, id, buffered_bulk(from, id, p, body))
+    number_by(l, id, buffered_bulk(id, p, body))
 }
 
 // The wire checks of a packet with its body, for reader and writer alike; a `Packet` is of a known kind, so 20 is not among them.

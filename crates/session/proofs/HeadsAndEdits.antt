@@ -20,7 +20,7 @@ use Rattle.events.specs.declared.Typed.{Typed}
 use Rattle.events.specs.declared.Typed.the-variants.{Untyped, OfEndpoint, OfMask}
 use Rattle.checks.specs.declared.StreamMove.{StreamMove}
 use Rattle.checks.specs.declared.StreamMove.the-variants.{Opens, Closes, Stalls}
-use Rattle.checks.specs.Change.{isOpening, isStall}
+use Rattle.checks.specs.Change.{isOpening, isStalling}
 use Rattle.checks.specs.declared.Change.{Change}
 use Rattle.session.specs.declared.Edit.{Edit}
 use Rattle.session.specs.Step.{deviceTo, introduced, headAfter, rowsAfter, requestsAfter, begunBy, watchAfter}
@@ -64,10 +64,10 @@ begun-there w (OfMask m ty) = unwatched begun w
 
 -- where it is a stall or not
 module _ (m : StreamMove) where
-  pub stall-closes : isStall m ≡ true → isOpening m ≡ false
+  pub stall-closes : isStalling m ≡ true → isOpening m ≡ false
   stall-closes = go m
     where
-      go : (x : StreamMove) → isStall x ≡ true → isOpening x ≡ false
+      go : (x : StreamMove) → isStalling x ≡ true → isOpening x ≡ false
       go Opens e = absurd (true≢false (sym e))
       go Closes e = refl
       go Stalls e = refl

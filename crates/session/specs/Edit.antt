@@ -22,7 +22,7 @@ use Rattle.watch.specs.declared.Watch.{Watch}
 use Rattle.watch.specs.Watch.{inRows, watchedRow, changedAt}
 use Rattle.watch.specs.Columns.{noted}
 use Rattle.checks.specs.declared.StreamMove.{StreamMove}
-use Rattle.checks.specs.Change.{isOpening, isStall}
+use Rattle.checks.specs.Change.{isOpening, isStalling}
 use Rattle.checks.specs.declared.Change.{Change}
 use Rattle.checks.specs.declared.Change.the-variants.{NoChange, Seen, Hello, Connect, Interfaces, Endpoints, Disconnect, Reset, Acknowledge, Take, TakeAndOpen, Release}
 use Rattle.session.specs.declared.Edit.{Edit}
@@ -55,7 +55,7 @@ wideEdit = record { row = 32; opens = false; place = places; live = false; reque
 
 abbrev pub replyEdit : Rows → ℕ → Typed → StreamMove → Scope → Edit
 replyEdit d i typed stream NoRow =
-    record { row = rowMoved d typed; opens = isOpening stream; place = i; live = false; request = noRequest; wide = false; watched = cond (isStall stream) (begunRow typed) inRows; seen = false; id = 0 }
+    record { row = rowMoved d typed; opens = isOpening stream; place = i; live = false; request = noRequest; wide = false; watched = cond (isStalling stream) (begunRow typed) inRows; seen = false; id = 0 }
 replyEdit d i typed stream EveryRow = wideEdit
 replyEdit d i typed stream (OfInterface n) = wideEdit
 

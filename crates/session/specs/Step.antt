@@ -23,7 +23,7 @@ use Rattle.events.specs.Event.{Event}
 use Rattle.checks.specs.declared.Change.{Change}
 use Rattle.checks.specs.declared.Change.the-variants.{NoChange, Seen, Hello as Greet, Connect, Interfaces, Endpoints, Disconnect, Reset, Acknowledge, Take, TakeAndOpen, Release}
 use Rattle.checks.specs.Checks.{Match, matchOf, numberFor}
-use Rattle.checks.specs.Change.{isOpening, isStall, changeFor}
+use Rattle.checks.specs.Change.{isOpening, isStalling, changeFor}
 use Rattle.session.specs.declared.Session.{Session}
 use Rattle.session.specs.Session.{sharedIn, isWide}
 
@@ -136,7 +136,7 @@ watchAfter w wide Acknowledge = w
 watchAfter w wide (Take i q) = w
 -- "after each passed start, or 14, 17 or 27 with status 4, on the row, 0 is expected"
 watchAfter w wide (TakeAndOpen i q typed) = begunBy w typed
-watchAfter w wide (Release i typed stream scope) = cond (isStall stream) (begunBy w typed) w
+watchAfter w wide (Release i typed stream scope) = cond (isStalling stream) (begunBy w typed) w
 
 -- ---- the session after a packet that passed, and the judge's answer
 

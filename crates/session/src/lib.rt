@@ -5,7 +5,7 @@ ghost use lib.Dec.{ltb};
 ghost use Rattle.device.specs.declared.Rows.{Rows};
 ghost use Rattle.requests.specs.Requests.{places, noRequest, released};
 ghost use Rattle.watch.specs.Watch.{breaksOn, gapOn};
-ghost use Rattle.checks.specs.Change.{isOpening, isStall};
+ghost use Rattle.checks.specs.Change.{isOpening, isStalling};
 ghost use Rattle.session.specs.declared.Session.{Session};
 ghost use Rattle.session.specs.Edit.{Moves, begunRow, wideEdit, Edits, Stores};
 ghost use Rattle.session.specs.Session.{freshSession, linkTo, sharedIn, isWide, heldIn, countAs, heldTo, heldBad, unfit};
@@ -299,8 +299,8 @@ fn is_opening(m: StreamMove) -> bool
     }
 }
 
-fn is_stall(m: StreamMove) -> bool
-    ensures { λ r. ⌜ r ≡ isStall m ⌝ }
+fn is_stalling(m: StreamMove) -> bool
+    ensures { λ r. ⌜ r ≡ isStalling m ⌝ }
 {
     match m {
         StreamMove::Opens => false,
@@ -402,7 +402,7 @@ fn watch_after(w: Watch, wide: bool, c: Change) -> Watch
         Change::Take(_, _) => w,
         Change::TakeAndOpen(_, _, typed) => begin_by(w, typed),
         Change::Release(_, typed, stream, _) => {
-            if is_stall(stream) {
+            if is_stalling(stream) {
                 begin_by(w, typed)
             } else {
                 w
@@ -538,7 +538,7 @@ pub fn edit_of(types: &[u8; 32], c: Change) -> Edit
             match scope {
                 Scope::NoRow => {
                     let row = row_moved(types, typed);
-                    if is_stall(stream) {
+                    if is_stalling(stream) {
                         return edit_with(
                             row,
                             false,

@@ -22,7 +22,7 @@ use Rattle.header.specs.declared.Link.{Link}
 use Rattle.header.specs.Link.{sharedSet, passed, own}
 use Rattle.header.specs.Header.{kindOf, lengthOf, headerSize, headerNumber}
 use Rattle.header.proofs.Widths.{wide, narrow, short}
-use Rattle.kinds.specs.Table.{Bits, always, bit, bits, status, endpoint, zero-without, Field, Kind, u8, u16, u32, _is_, kinds, kindAt}
+use Rattle.kinds.specs.Table.{Bits, always, bit, bits, endpoint, zero-without, Field, Kind, u8, u16, u32, _is_, kinds, kindAt}
 use Rattle.kinds.specs.Content.{Value, Content, shared, sizeOf, size, named, find, fieldsOf}
 use Rattle.kinds.specs.Number.{sends, surplus, wideId, sizeOk, badField, badFields, badTail, badId, orElse, bad, isNone, streamsAlone, inOrder, kindNumber, byKind, wireNumber}
 use Rattle.kinds.specs.Codec.{layout, decode, encode, orNext, readNumber, bodyLength, packetNumber, Accepted}
@@ -203,7 +203,7 @@ stream-zero from caps e (u ∷ v ∷ w ∷ none ∷ vs) at h b = refl
 stream-zero from caps e (u ∷ v ∷ w ∷ some [] ∷ vs) at h b = refl
 stream-zero from caps e (u ∷ v ∷ w ∷ some (x ∷ xs) ∷ vs) at h b =
     let c = next-good from caps e (u8 "endpoint" is endpoint) (drop 1 (layout 101)) u (v ∷ w ∷ some (x ∷ xs) ∷ vs) at b in
-    let d = next-good from caps e (u8 "status" is status) (drop 2 (layout 101)) v (w ∷ some (x ∷ xs) ∷ vs) (at + 1) c in
+    let d = next-good from caps e (u8 "status") (drop 2 (layout 101)) v (w ∷ some (x ∷ xs) ∷ vs) (at + 1) c in
     let f = next-good from caps e (u16 "length") (drop 3 (layout 101)) w (some (x ∷ xs) ∷ vs) (at + 1 + 1) d in
     let good = first-good from caps e (u32 "stream" is zero-without 0) (drop 4 (layout 101)) (x ∷ xs) vs (at + 1 + 1 + 2) f 0 (omega arith) in
     eqb-true x 0 (rw h at good)

@@ -6,6 +6,12 @@ use Side::{Guest, Host};
 use crate::script::{Item, Script};
 use crate::traffic::{endpoint_of, BULK, INTERRUPT, ISO};
 
+/// Bits of a hello's word.
+pub const STREAMS: u32 = 1 << 0;
+pub const MAX_PACKET: u32 = 1 << 4;
+const WIDE_IDS: u32 = 1 << 5;
+pub const BULK_RECEIVING: u32 = 1 << 7;
+
 /// The rows of the device, the first two of them OUT; all others but 0 and 16 are invalid.
 const ROWS: [(usize, u8); 6] = [
     (1, ISO),
@@ -20,7 +26,8 @@ const ROWS: [(usize, u8); 6] = [
 pub struct Hand {
     pub script: Script,
     pub numbers: Vec<u8>,
-    wide: bool,
+    /// The word that both hellos offer.
+    word: u32,
     rows: Vec<(usize, u8)>,
 }
 
@@ -35,10 +42,11 @@ pub struct Case {
 impl Hand {
     /// Both hellos, with bulk receiving and the width, and the device.
     pub fn new(wide: bool) -> Hand {
-        Hand::with_rows(wide, ROWS.to_vec())
+        Hand::with(BULK_RECEIVING | width(wide), ROWS.to_vec())
     }
 
-    fn with_rows(wide: bool, rows: Vec<(usize, u8)>) -> Hand {
+    /// Both hellos with this word, and the device with these rows.
+    pub fn with(word: u32, rows: Vec<(usize, u8)>) -> Hand {
         let hand = Hand {
             script: Script {
                 hold_size: HOLD_SIZE,
@@ -46,18 +54,23 @@ impl Hand {
                 items: Vec::new(),
             },
             numbers: Vec::new(),
-            wide,
+            word,
             rows,
         };
         let mut hello = [0; 68];
-        hello[64] = if wide { 128 | 32 } else { 128 };
+        hello[64..].copy_from_slice(&word.to_le_bytes());
         hand.sent(Guest, 0, 0, &hello, 0)
             .sent(Host, 0, 0, &hello, 0)
             .introduction()
     }
 
     pub fn introduction(self) -> Hand {
-        let mut table = [0; 96];
+        let size = match (self.has(MAX_PACKET), self.has(STREAMS)) {
+            (false, _) => 96,
+            (true, false) => 160,
+            (true, true) => 288,
+        };
+        let mut table = vec![0; size];
         table[..32].fill(255);
         table[0] = 0;
         table[16] = 0;
@@ -69,15 +82,20 @@ impl Hand {
             .sent(Host, 1, 0, &[0; 8], 0)
     }
 
+    fn has(&self, bit: u32) -> bool {
+        self.word & bit != 0
+    }
+
     pub fn disconnect(self) -> Hand {
         self.sent(Host, 2, 0, &[], 0)
     }
 
     /// A packet, and the number it gets.
-    fn sent(mut self, from: Side, kind: u32, id: u64, body: &[u8], number: u8) -> Hand {
+    pub fn sent(mut self, from: Side, kind: u32, id: u64, body: &[u8], number: u8) -> Hand {
         let mut piece = kind.to_le_bytes().to_vec();
         piece.extend((body.len() as u32).to_le_bytes());
-        let size = if self.wide && kind != 0 { 8 } else { 4 };
+        let wide = self.has(WIDE_IDS) && kind != 0;
+        let size = if wide { 8 } else { 4 };
         piece.extend(&id.to_le_bytes()[..size]);
         piece.extend(body);
         self.script.items.push(Item { from, piece });
@@ -86,7 +104,7 @@ impl Hand {
     }
 
     /// The last packet gets another number than 0.
-    fn refused(mut self, number: u8) -> Hand {
+    pub fn refused(mut self, number: u8) -> Hand {
         *self.numbers.last_mut().expect("a packet") = number;
         self
     }
@@ -142,9 +160,21 @@ impl Hand {
     }
 }
 
+/// The bit of 64-bit ids, or none.
+pub fn width(wide: bool) -> u32 {
+    if wide {
+        WIDE_IDS
+    } else {
+        0
+    }
+}
+
 /// Rows 17 to 31 as iso streams, each with a break; gap and expected id have no zero byte.
 pub fn all_rows() -> Hand {
-    let mut hand = Hand::with_rows(true, (17..32).map(|row| (row, ISO)).collect());
+    let mut hand = Hand::with(
+        BULK_RECEIVING | WIDE_IDS,
+        (17..32).map(|row| (row, ISO)).collect(),
+    );
     for row in 17..32 {
         hand = hand.start(row, row as u64);
     }
@@ -386,13 +416,21 @@ pub fn cases() -> Vec<Case> {
             "a refused stall, and other statuses",
             narrow()
                 .start(18, 7)
+                .start(19, 8)
                 .data(18, 0)
+                .data(19, 0)
                 .status(18, 9, 4)
                 .refused(33)
                 .status(18, 0, 3)
                 .refused(33)
-                .status(18, 7, 5),
-            &[(18, "0000 0000000000000000 0100000000000000")],
+                .status(18, 0, 7)
+                .refused(33)
+                .status(18, 7, 5)
+                .status(19, 8, 7),
+            &[
+                (18, "0000 0000000000000000 0100000000000000"),
+                (19, "0000 0000000000000000 0100000000000000"),
+            ],
         ),
         case(
             "refused data",
@@ -404,7 +442,7 @@ pub fn cases() -> Vec<Case> {
                 .sent(Host, 103, 9, &[0x82, 0, 0, 0], 28)
                 .sent(Host, 104, 9, &[0, 0, 0, 0, 0, 0, 0, 0, 0x82, 0], 28)
                 .sent(Host, 102, 9, &[0x82, 0, 1, 0], 23)
-                .sent(Host, 102, 9, &[0x82, 7, 0, 0], 24)
+                .sent(Host, 102, 9, &[0x92, 0, 0, 0], 24)
                 .sent(Guest, 102, 9, &[0x82, 0, 0, 0], 24)
                 .data(18, 1)
                 .status(18, 7, 1)

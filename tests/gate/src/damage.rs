@@ -116,7 +116,7 @@ impl Planner<'_> {
                 bytes[endpoint] ^= self.random.pick(&[0x10, 0x20, 0x40, 0x80, 0x80, 1]);
             }
         } else if status < bytes.len() {
-            bytes[status] = self.random.pick(&[4, 5, 6, 7, 8, 255]);
+            bytes[status] = self.random.pick(&[0, 3, 4, 5, 7, 132, 255]);
         }
         bytes
     }

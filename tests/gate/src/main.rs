@@ -9,6 +9,7 @@ mod damage;
 mod delivery;
 mod drive;
 mod script;
+mod statuses;
 mod streams;
 mod tally;
 mod traffic;
@@ -86,6 +87,7 @@ fn main() -> ExitCode {
         let name = format!("watch by hand, {}", case.name);
         test(&mut report, &name, watch::by_hand(&case));
     }
+    test(&mut report, "every status byte", statuses::every_byte());
     test(&mut report, "the end of the watch's bytes", watch::ends());
     for wide in [false, true] {
         let name = format!("a full count, ids of {} bits", if wide { 64 } else { 32 });

@@ -5,6 +5,7 @@ use plain::{Request, Side};
 use tools::Random;
 use Side::{Guest, Host};
 
+use crate::damage::endpoint_at;
 use crate::traffic::{
     endpoint_of, plan_by, shared_sets, Planner, Sent, Style, BULK, INTERRUPT, ISO,
 };
@@ -143,7 +144,7 @@ impl Planner<'_> {
         }
         let row = self.random.pick(&open);
         let id = self.watched_id(row);
-        let status = self.random.below(7) as u8;
+        let status = self.random.byte();
         let kind = self.data_kind(row);
         self.data_of(kind, id, row, status)
     }
@@ -172,8 +173,10 @@ impl Planner<'_> {
             }
             1 => {
                 let kind = self.data_kind(row);
-                let status = self.random.pick(&[7, 255]);
-                self.data_of(kind, id, row, status)
+                let header = if self.session().is_wide() { 16 } else { 12 };
+                let mut bytes = self.data_of(kind, id, row, 0);
+                bytes[header + endpoint_at(kind)] ^= self.random.pick(&[0x10, 0x20, 0x40]);
+                bytes
             }
             2 => {
                 let kind = self.data_kind(row);
@@ -219,7 +222,7 @@ impl Planner<'_> {
             return self.start_or_stop(true);
         }
         let request = self.random.pick(&asked);
-        let any = self.random.below(7) as u8;
+        let any = self.random.byte();
         let status = self.random.weighed(&[(5, 0), (4, 4), (2, any)]);
         let kind = match request.kind {
             12 | 13 => 14,
@@ -249,7 +252,8 @@ impl Planner<'_> {
         let kind = self.random.weighed(&[(2, own), (1, other)]);
         // With another id or status it is refused.
         let id = u64::from(self.random.one_in(6));
-        let status = self.random.weighed(&[(9, 4), (1, 3)]);
+        let any = self.random.byte();
+        let status = self.random.weighed(&[(18, 4), (1, 3), (1, any)]);
         self.status_of(kind, id, endpoint_of(row), status)
     }
 

@@ -371,13 +371,22 @@ impl Planner<'_> {
         }
     }
 
+    /// One of the statuses that have a name, or any byte.
+    fn any_status(&mut self) -> u8 {
+        if self.random.percent(50) {
+            self.random.below(7) as u8
+        } else {
+            self.random.byte()
+        }
+    }
+
     /// A status with id 0 and mostly 4, which no request may have asked for.
     fn unsolicited(&mut self) -> Vec<u8> {
         let row = self.random.between(1, 31);
         let status = if self.random.percent(85) {
             4
         } else {
-            self.random.below(7) as u8
+            self.any_status()
         };
         match self.random.below(if self.has(7) { 3 } else { 2 }) {
             0 => self.frame(14, 0, &[status, endpoint_of(row)]),
@@ -403,7 +412,7 @@ impl Planner<'_> {
             _ => 103,
         };
         let id = self.random.near_power();
-        let status = self.random.below(7) as u8;
+        let status = self.any_status();
         let fixed = if kind == 104 { 10 } else { 4 };
         let data = self.data(LENGTH_LIMIT as usize - fixed);
         let mut body = Vec::new();
@@ -432,7 +441,7 @@ impl Planner<'_> {
         let status = if self.random.percent(75) {
             0
         } else {
-            self.random.below(7) as u8
+            self.any_status()
         };
         let byte = self.random.byte();
         let target = request.target;

@@ -618,7 +618,7 @@ fn a_start_opens_at_once() {
 
 #[test]
 fn a_stop_closes_by_its_status() {
-    for status in 0..=6 {
+    for status in 0..=255 {
         let mut gate = Gate::connected(&[(18, ISO, 0)]);
         gate.pass(Guest, &packet(12, 1, &[0x82, 1, 1]));
         gate.pass(Host, &packet(14, 1, &[0, 0x82]));
@@ -1126,7 +1126,7 @@ fn a_stall_restarts_a_row_of_another_type() {
 #[test]
 fn other_statuses_restart_nothing() {
     for (wide, row) in watched_rows() {
-        for status in [0, 1, 2, 3, 5, 6] {
+        for status in (0..=255).filter(|status| *status != 4) {
             let mut gate = Watched::new(wide);
             let start = gate.start(row);
             gate.all(row, &[0, 1]);
@@ -1146,13 +1146,13 @@ fn a_refused_stall_restarts_nothing() {
         gate.start(row);
         gate.all(row, &[0, 1]);
     }
-    // No such request; a wrong size; a status or an endpoint that isn't allowed; a wrong sender.
+    // No such request; a wrong size; an endpoint that isn't allowed; a wrong sender; no stall.
     for (from, kind, id, body, number) in [
         (Host, 14, 9, &[4, 0x82][..], 33),
         (Host, 17, 9, &[4, 0x83], 33),
         (Host, 27, 9, &[0, 0, 0, 0, 0x84, 4], 33),
         (Host, 14, 0, &[4, 0x82, 0], 23),
-        (Host, 14, 0, &[7, 0x82], 24),
+        (Host, 14, 0, &[7, 0x82], 33),
         (Host, 14, 0, &[4, 0x92], 24),
         (Guest, 17, 0, &[4, 0x83], 21),
     ] {
@@ -1185,11 +1185,11 @@ fn refused_data_is_not_watched() {
             let body = [0, 0, 0, 0, 0, 0, 0, 0, endpoint, 0];
             assert_eq!(gate.number(Host, 104, 9, &body), 28);
         }
-        // A wrong size; a status that isn't allowed; a wrong sender.
+        // A wrong size; an endpoint that isn't allowed; a wrong sender.
         let (kind, fields): (u32, &[u8]) = match row {
-            18 => (102, &[0x82, 7, 0, 0]),
-            19 => (103, &[0x83, 7, 0, 0]),
-            _ => (104, &[0, 0, 0, 0, 0, 0, 0, 0, 0x84, 7]),
+            18 => (102, &[0x92, 0, 0, 0]),
+            19 => (103, &[0x93, 0, 0, 0]),
+            _ => (104, &[0, 0, 0, 0, 0, 0, 0, 0, 0x94, 0]),
         };
         assert_eq!(gate.number(Host, kind, 9, &[fields, &[1]].concat()), 23);
         assert_eq!(gate.number(Host, kind, 9, fields), 24);

@@ -25,7 +25,6 @@ pub(crate) mod bit {
 }
 
 const VERSION_SIZE: usize = 64;
-const STATUS_LIMIT: u8 = 6;
 const INTERFACE_LIMIT: u32 = 32;
 
 /// Endpoint types, as in an endpoint table.
@@ -176,7 +175,6 @@ fn sized(from: Side, shared: u32, kind: u32, body: &[u8]) -> Option<usize> {
 
 /// The field rules, on a body of the right size.
 fn fields_hold(from: Side, shared: u32, header: &Header, body: &[u8]) -> bool {
-    let status = |at: usize| from == Side::Guest || body[at] <= STATUS_LIMIT;
     let endpoint = |at: usize| body[at] & 0x70 == 0;
     let endpoint_in = |at: usize| body[at] & 0xf0 == 0x80;
     let id_is_0 = header.id == 0;
@@ -194,21 +192,17 @@ fn fields_hold(from: Side, shared: u32, header: &Header, body: &[u8]) -> bool {
                     .iter()
                     .all(|kind| matches!(*kind, CONTROL..=INTERRUPT | INVALID))
         }
-        8 | 11 => status(0),
         12 | 13 => endpoint(0),
-        14 | 17 => status(0) && endpoint(1),
+        14 | 17 => endpoint(1),
         15 | 16 => endpoint_in(0),
         18 | 19 => u32_at(body, 0) != 0,
-        20 => status(8),
         23 => id_is_0 && body.iter().position(|byte| *byte == 0) == Some(body.len() - 1),
-        25 => endpoint_in(8),
-        26 => endpoint_in(4),
-        27 => endpoint_in(4) && status(5),
-        100 => endpoint(0) && is_in(body[0]) == is_in(body[2]) && status(3),
-        101 => endpoint(0) && status(1) && (shared & bit::STREAMS != 0 || u32_at(body, 4) == 0),
-        102 => endpoint(0) && is_in(body[0]) == (from == Side::Host) && status(1),
-        103 => endpoint(0) && !(from == Side::Guest && is_in(body[0])) && status(1),
-        104 => endpoint_in(8) && status(9),
+        25 | 104 => endpoint_in(8),
+        26 | 27 => endpoint_in(4),
+        100 => endpoint(0) && is_in(body[0]) == is_in(body[2]),
+        101 => endpoint(0) && (shared & bit::STREAMS != 0 || u32_at(body, 4) == 0),
+        102 => endpoint(0) && is_in(body[0]) == (from == Side::Host),
+        103 => endpoint(0) && !(from == Side::Guest && is_in(body[0])),
         _ => true,
     }
 }

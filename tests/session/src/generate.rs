@@ -511,15 +511,12 @@ impl<'a> Traffic<'a> {
                 }
             }
         }
+        let any = self.random.byte();
         let status = if self.mood.filling {
-            self.random.pick(&[0, 1, 2, 3, 4, 5, 6])
+            self.random.pick(&[0, 1, 2, 3, 4, 5, 6, 7, any])
         } else {
-            self.random.pick(&[0, 0, 0, 0, 0, 1, 2, 3, 4, 4, 5, 6])
-        };
-        let status = if self.wrong() && self.random.one_in(8) {
-            7
-        } else {
-            status
+            self.random
+                .pick(&[0, 0, 0, 0, 0, 0, 1, 2, 3, 4, 4, 5, 6, 7, any])
         };
         self.reply_with(request, status, length)
     }
@@ -616,7 +613,7 @@ impl<'a> Traffic<'a> {
         } else {
             from
         };
-        let status = self.random.below(7) as u8;
+        let status = self.random.byte();
         let packet = match kind {
             ISO => packets::iso(id, endpoint, size).but(1, status),
             INTERRUPT => packets::interrupt(id, endpoint, size).but(1, status),
@@ -643,10 +640,10 @@ impl<'a> Traffic<'a> {
         };
         let endpoint = self.endpoint(wanted, inward);
         let id = if self.wrong() { self.any_id() } else { 0 };
-        let status = if self.wrong() {
-            self.random.below(8) as u8
-        } else {
-            4
+        let status = match self.random.below(6) {
+            0 => self.random.pick(&[0, 3, 5, 7]),
+            1 if self.wrong() => self.random.byte(),
+            _ => 4,
         };
         self.status(flow, id, status, endpoint)
     }

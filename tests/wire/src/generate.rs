@@ -143,9 +143,6 @@ fn fit(random: &mut Random, link: &Link, packet: &mut Packet) {
     if oracle::has_id_zero(packet.kind) {
         packet.id = 0;
     }
-    if !link.from_guest && packet.number("status").is_some() {
-        packet.set("status", Value::Number(random.below(7) as u64));
-    }
     if packet.endpoint().is_some() {
         let endpoint = fitting_endpoint(random, link, packet.kind);
         packet.set("endpoint", Value::Number(endpoint));

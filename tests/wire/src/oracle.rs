@@ -496,7 +496,6 @@ fn data_size_holds(link: &Link, packet: &Packet) -> bool {
 fn field_rules_hold(link: &Link, packet: &Packet) -> bool {
     id_holds(packet)
         && endpoint_holds(packet)
-        && status_holds(link, packet)
         && direction_holds(link, packet)
         && own_rule_holds(link, packet)
 }
@@ -514,14 +513,6 @@ fn id_holds(packet: &Packet) -> bool {
 fn endpoint_holds(packet: &Packet) -> bool {
     match packet.endpoint() {
         Some(endpoint) => row_of(endpoint).is_some(),
-        None => true,
-    }
-}
-
-/// "A host's status is 0 to 6; a guest's is any byte." Of every kind that has one.
-fn status_holds(link: &Link, packet: &Packet) -> bool {
-    match packet.number("status") {
-        Some(status) => link.from_guest || status <= 6,
         None => true,
     }
 }

@@ -6,6 +6,9 @@ use Rattle.checks.proofs.Rulings.{reply-pending, reply-other, reply-now
 use Rattle.checks.proofs.rule_reply.Statement.{statement}
 use Rattle.checks.proofs.rule_reply.Tie as tie
 
+is-stall-requires : tie.Need-is-stall-requires
+is-stall-requires c κs = search needs
+
 find-id-requires : tie.Need-find-id-requires
 find-id-requires c κs = search needs
 
@@ -28,7 +31,7 @@ returns c =
     let n = f .before .before in
     let a = n .before .before .before .before .before .args in
     λ t l.
-    reply-pending t (a .r) (a .typed) (a .unasked) _ (n .find-id .ensures t (l .used) (l .live) (l .ids))
+    reply-pending t (a .r) (a .typed) (a .unasked) _ (n .before .is-stall .ensures) _ (n .find-id .ensures t (l .used) (l .live) (l .ids))
     _ (f .f .given .1) _ (k .kind-at .ensures ∙ rw (l .kinds)) (c .before .before .before .if1 .taken)
     _ (c .before .move-by .ensures) _ (c .scope-to .ensures)
 
@@ -48,7 +51,7 @@ returns-2 c =
     let n = f .before .before in
     let a = n .before .before .before .before .before .args in
     λ t l.
-    reply-other t (a .r) (a .typed) (a .unasked) _ (n .find-id .ensures t (l .used) (l .live) (l .ids))
+    reply-other t (a .r) (a .typed) (a .unasked) _ (n .before .is-stall .ensures) _ (n .find-id .ensures t (l .used) (l .live) (l .ids))
     _ (f .f .given .1) _ (k .kind-at .ensures ∙ rw (l .kinds)) (c .before .if1 .left) _ (c .rule-unmatched .ensures)
 
 returns-3 : tie.Need-returns-3
@@ -56,12 +59,13 @@ returns-3 c =
     let n = c .before .before .before in
     let a = n .before .before .before .before .before .args in
     λ t l.
-    reply-nowhere t (a .r) (a .typed) (a .unasked) _ (n .find-id .ensures t (l .used) (l .live) (l .ids)) (c .before .enum-told .given .1) _ (c .rule-unmatched2 .ensures)
+    reply-nowhere t (a .r) (a .typed) (a .unasked) _ (n .before .is-stall .ensures) _ (n .find-id .ensures t (l .used) (l .live) (l .ids)) (c .before .enum-told .given .1) _ (c .rule-unmatched2 .ensures)
 
 pub rule-reply-spec : {M : Type 1} → statement M
 rule-reply-spec =
     tie.close
     (tie.spec
+    is-stall-requires
     find-id-requires
     enum-known-f
     kind-at-requires

@@ -11,9 +11,6 @@ part-of-requires c κs = search needs
 cast-judged : tie.Need-cast-judged
 cast-judged c = search needs
 
-status-at-requires : tie.Need-status-at-requires
-status-at-requires c κs = search needs
-
 in-at-requires : tie.Need-in-at-requires
 in-at-requires c κs = search needs
 
@@ -21,7 +18,7 @@ judged-requires : tie.Need-judged-requires
 judged-requires c κs = search needs
 
 returns : tie.Need-returns
-returns c = λ caps. rw (c .judged .ensures, c .before .in-at .ensures, c .before .before .status-at .ensures, c .before .before .before .before .part-of .ensures) (law.buffered-bulk _ _ _ _ _)
+returns c = λ from caps. rw (c .judged .ensures, c .before .in-at .ensures, c .before .before .before .part-of .ensures) (law.buffered-bulk _ _ _ _ _)
 
 pub buffered-bulk-spec : {M : Type 1} → statement M
 buffered-bulk-spec =
@@ -29,7 +26,6 @@ buffered-bulk-spec =
     (tie.spec
     part-of-requires
     cast-judged
-    status-at-requires
     in-at-requires
     judged-requires
     returns)

@@ -11,7 +11,7 @@ number-by-requires : tie.Need-number-by-requires
 number-by-requires c κs = search needs
 
 returns : tie.Need-returns
-returns c = c .number-by .ensures _ _ (c .before .buffered-bulk .ensures _)
+returns c = c .number-by .ensures _ _ (c .before .buffered-bulk .ensures _ _)
 
 pub buffered-number-spec : {M : Type 1} → statement M
 buffered-number-spec = tie.close (tie.spec buffered-bulk-requires number-by-requires returns)

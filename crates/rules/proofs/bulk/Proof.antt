@@ -23,14 +23,11 @@ onward-data-requires c κs = search needs
 cast-t18 : tie.Need-cast-t18
 cast-t18 c = search needs
 
-status-at-requires : tie.Need-status-at-requires
-status-at-requires c κs = search needs
-
 endpoint-at-requires : tie.Need-endpoint-at-requires
 endpoint-at-requires c κs = search needs
 
 returns : tie.Need-returns
-returns c = rw (c .endpoint-at .ensures, c .before .status-at .ensures, c .before .before .onward-data .ensures, c .before .before .before .part-of .ensures, c .before .before .before .before .has-bit2 .ensures, c .before .before .before .before .before .checked .ensures, c .before .before .before .before .before .before .before .has-bit .ensures) (law.bulk _ _ _ _ _)
+returns c = rw (c .endpoint-at .ensures, c .before .onward-data .ensures, c .before .before .part-of .ensures, c .before .before .before .has-bit2 .ensures, c .before .before .before .before .checked .ensures, c .before .before .before .before .before .before .has-bit .ensures) (law.bulk _ _ _ _ _)
 
 pub bulk-spec : {M : Type 1} → statement M
 bulk-spec =
@@ -42,6 +39,5 @@ bulk-spec =
     part-of-requires
     onward-data-requires
     cast-t18
-    status-at-requires
     endpoint-at-requires
     returns)

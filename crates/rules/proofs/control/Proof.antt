@@ -5,9 +5,6 @@ use borrow.Author.Needs.{needs}
 use Rattle.rules.proofs.control.Statement.{statement}
 use Rattle.rules.proofs.control.Tie as tie
 
-status-at-requires : tie.Need-status-at-requires
-status-at-requires c κs = search needs
-
 checked-requires : tie.Need-checked-requires
 checked-requires c κs = search needs
 
@@ -30,13 +27,12 @@ judged-requires : tie.Need-judged-requires
 judged-requires c κs = search needs
 
 returns : tie.Need-returns
-returns c = λ caps. rw (c .judged .ensures, c .before .endpoint-at .ensures, c .before .before .onward-data .ensures, c .before .before .before .before .part-of .ensures, c .before .before .before .before .before .checked .ensures, c .before .before .before .before .before .before .status-at .ensures) (law.control _ _ _ _ _)
+returns c = λ caps. rw (c .judged .ensures, c .before .endpoint-at .ensures, c .before .before .onward-data .ensures, c .before .before .before .before .part-of .ensures, c .before .before .before .before .before .checked .ensures) (law.control _ _ _ _ _)
 
 pub control-spec : {M : Type 1} → statement M
 control-spec =
     tie.close
     (tie.spec
-    status-at-requires
     checked-requires
     part-of-requires
     cast-onward-data

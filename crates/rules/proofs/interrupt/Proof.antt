@@ -26,9 +26,6 @@ onward-data-requires c κs = search needs
 cast-judged : tie.Need-cast-judged
 cast-judged c = search needs
 
-status-at-requires : tie.Need-status-at-requires
-status-at-requires c κs = search needs
-
 checked-requires : tie.Need-checked-requires
 checked-requires c κs = search needs
 
@@ -36,7 +33,7 @@ judged-requires : tie.Need-judged-requires
 judged-requires c κs = search needs
 
 returns : tie.Need-returns
-returns c = λ caps. rw (c .judged .ensures, c .before .checked .ensures, c .before .before .status-at .ensures, c .before .before .before .onward-data .ensures, c .before .before .before .before .before .part-of .ensures, c .before .before .before .before .before .before .is-onward .ensures, c .before .before .before .before .before .before .before .is-guest .ensures, c .before .before .before .before .before .before .before .before .is-address .ensures) (law.interrupt _ _ _ _ _)
+returns c = λ caps. rw (c .judged .ensures, c .before .checked .ensures, c .before .before .onward-data .ensures, c .before .before .before .before .part-of .ensures, c .before .before .before .before .before .is-onward .ensures, c .before .before .before .before .before .before .is-guest .ensures, c .before .before .before .before .before .before .before .is-address .ensures) (law.interrupt _ _ _ _ _)
 
 pub interrupt-spec : {M : Type 1} → statement M
 interrupt-spec =
@@ -49,7 +46,6 @@ interrupt-spec =
     cast-onward-data
     onward-data-requires
     cast-judged
-    status-at-requires
     checked-requires
     judged-requires
     returns)

@@ -17,9 +17,6 @@ part-of-requires c κs = search needs
 cast-judged : tie.Need-cast-judged
 cast-judged c = search needs
 
-status-at-requires : tie.Need-status-at-requires
-status-at-requires c κs = search needs
-
 checked-requires : tie.Need-checked-requires
 checked-requires c κs = search needs
 
@@ -27,7 +24,7 @@ judged-requires : tie.Need-judged-requires
 judged-requires c κs = search needs
 
 returns : tie.Need-returns
-returns c = λ caps. rw (c .judged .ensures, c .before .checked .ensures, c .before .before .status-at .ensures, c .before .before .before .before .part-of .ensures, c .before .before .before .before .before .is-onward .ensures, c .before .before .before .before .before .before .is-address .ensures) (law.iso _ _ _ _ _)
+returns c = λ caps. rw (c .judged .ensures, c .before .checked .ensures, c .before .before .before .part-of .ensures, c .before .before .before .before .is-onward .ensures, c .before .before .before .before .before .is-address .ensures) (law.iso _ _ _ _ _)
 
 pub iso-spec : {M : Type 1} → statement M
 iso-spec =
@@ -37,7 +34,6 @@ iso-spec =
     is-onward-requires
     part-of-requires
     cast-judged
-    status-at-requires
     checked-requires
     judged-requires
     returns)

@@ -88,8 +88,8 @@ enum-told-9 c = search needs
 row-moved-requires-2 : tie.Need-row-moved-requires-2
 row-moved-requires-2 c κs = search needs
 
-is-stall-requires : tie.Need-is-stall-requires
-is-stall-requires c κs = search needs
+is-stalling-requires : tie.Need-is-stalling-requires
+is-stalling-requires c κs = search needs
 
 begun-row-requires-2 : tie.Need-begun-row-requires-2
 begun-row-requires-2 c κs = search needs
@@ -101,7 +101,7 @@ returns : tie.Need-returns
 returns c = λ d p.
     let moves = c .before .before .before .before .row-moved2 .ensures d p in
     let row = moves .exactly in
-    let stall = sym (c .before .before .before .is-stall .ensures) ∙ c .before .before .if1 .taken in
+    let stall = sym (c .before .before .before .is-stalling .ensures) ∙ c .before .before .if1 .taken in
     edit-narrow d _ _ _ (rw (c .before .before .before .before .before .enum-told9 .given .1) at (c .before .before .before .before .before .before .before .before .c3 .given .1))
     (rw (← row, stall-closes _ stall, stall, ← c .before .begun-row2 .ensures, ← c .before .before .before .before .before .before .before .before .before .before .no-request .ensures) (c .edit-with4 .ensures)) (λ h from. refl)
     (λ new. closed-nowhere _ ∙ rw (← row) (moves .stored _)) (λ t. rw released-nowhere) (λ w wide. rw stall (begun-there w (c .before .before .before .before .before .before .before .before .c3 .given .0 .1 .0)))
@@ -171,7 +171,7 @@ returns-12 : tie.Need-returns-12
 returns-12 c = λ d p.
     let moves = c .before .before .before .before .row-moved2 .ensures d p in
     let row = moves .exactly in
-    let calm = sym (c .before .before .before .is-stall .ensures) ∙ c .before .before .if1 .left in
+    let calm = sym (c .before .before .before .is-stalling .ensures) ∙ c .before .before .if1 .left in
     edit-narrow d _ _ _ (rw (c .before .before .before .before .before .enum-told9 .given .1) at (c .before .before .before .before .before .before .before .before .c3 .given .1))
     (rw (← row, calm, ← c .before .is-opening .ensures, ← c .before .before .before .before .before .before .before .before .before .before .no-request .ensures) (c .edit-with5 .ensures)) (λ h from. refl)
     (λ new. closed-nowhere _ ∙ rw (← row) (moves .stored _)) (λ t. rw released-nowhere) (λ w wide. rw calm (unwatched _ w))
@@ -215,7 +215,7 @@ edit-of-spec =
     enum-known-c-3
     enum-told-9
     row-moved-requires-2
-    is-stall-requires
+    is-stalling-requires
     begun-row-requires-2
     edit-with-requires-4
     returns

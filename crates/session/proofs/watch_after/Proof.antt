@@ -44,8 +44,8 @@ begin-by-requires c κs = search needs
 enum-known-c-2 : tie.Need-enum-known-c-2
 enum-known-c-2 c = search needs
 
-is-stall-requires : tie.Need-is-stall-requires
-is-stall-requires c κs = search needs
+is-stalling-requires : tie.Need-is-stalling-requires
+is-stalling-requires c κs = search needs
 
 begin-by-requires-2 : tie.Need-begin-by-requires-2
 begin-by-requires-2 c κs = search needs
@@ -87,10 +87,10 @@ returns-10 : tie.Need-returns-10
 returns-10 c = rw (c .before .before .c .given .1) (c .begin-by .ensures)
 
 returns-11 : tie.Need-returns-11
-returns-11 c = rw (c .before .before .before .before .c2 .given .1, sym (c .before .before .is-stall .ensures) ∙ c .before .if1 .taken) (c .begin-by2 .ensures)
+returns-11 c = rw (c .before .before .before .before .c2 .given .1, sym (c .before .before .is-stalling .ensures) ∙ c .before .if1 .taken) (c .begin-by2 .ensures)
 
 returns-12 : tie.Need-returns-12
-returns-12 c = rw (c .before .before .before .c2 .given .1, sym (c .before .is-stall .ensures) ∙ c .if1 .left)
+returns-12 c = rw (c .before .before .before .c2 .given .1, sym (c .before .is-stalling .ensures) ∙ c .if1 .left)
 
 returns-13 : tie.Need-returns-13
 returns-13 c = rw (c .before .before .c3 .given .1) (c .see .ensures)
@@ -112,7 +112,7 @@ watch-after-spec =
     enum-known-c
     begin-by-requires
     enum-known-c-2
-    is-stall-requires
+    is-stalling-requires
     begin-by-requires-2
     enum-known-c-3
     see-requires

@@ -300,7 +300,6 @@ impl<'a> Place<'a> {
                 self.sent_by(Host)?;
                 self.sized(2)?;
                 let status = self.body[0];
-                self.rule(status <= 6)?;
                 Ok(Packet::ConfigStatus { status })
             }
             9 => {
@@ -321,7 +320,6 @@ impl<'a> Place<'a> {
                 self.sent_by(Host)?;
                 self.sized(3)?;
                 let (status, interface) = (self.body[0], self.body[1]);
-                self.rule(status <= 6)?;
                 Ok(Packet::AltStatus { status, interface })
             }
             12 => self.iso_request(3, |flow, endpoint| Packet::Start { flow, endpoint }),
@@ -343,7 +341,6 @@ impl<'a> Place<'a> {
                 self.sent_by(Host)?;
                 self.needs(BULK_STREAMS)?;
                 self.sized(9)?;
-                self.rule(self.body[8] <= 6)?;
                 Ok(Packet::AllocStatus)
             }
             21 => {
@@ -390,7 +387,6 @@ impl<'a> Place<'a> {
             27 => {
                 let endpoint = self.receiving(Host, 6, 4)?;
                 let status = self.body[5];
-                self.rule(status <= 6)?;
                 Ok(Packet::StreamStatus {
                     flow: Flow::Bulk,
                     endpoint,
@@ -467,11 +463,6 @@ impl<'a> Place<'a> {
         }
     }
 
-    /// "A host's status is 0 to 6; a guest's is any byte."
-    fn status_holds(&self, status: u8) -> bool {
-        self.from == Guest || status <= 6
-    }
-
     // The kinds that take more than a line or two.
 
     /// 23, 24, 13, in that order.
@@ -542,7 +533,7 @@ impl<'a> Place<'a> {
         self.sent_by(Host)?;
         self.sized(2)?;
         let (status, endpoint) = (self.body[0], self.body[1]);
-        self.rule(status <= 6 && is_address(endpoint))?;
+        self.rule(is_address(endpoint))?;
         Ok(Packet::StreamStatus {
             flow,
             endpoint,
@@ -572,12 +563,11 @@ impl<'a> Place<'a> {
 
     fn control(&self) -> Result<Packet<'a>, u8> {
         self.at_least(10)?;
-        let (endpoint, requesttype, status) = (self.body[0], self.body[2], self.body[3]);
+        let (endpoint, requesttype) = (self.body[0], self.body[2]);
         let length = u16_at(self.body, 8);
         self.data(10, self.sends_onward(endpoint), length)?;
         self.rule(is_address(endpoint))?;
         self.rule(is_in(requesttype) == is_in(endpoint))?;
-        self.rule(self.status_holds(status))?;
         Ok(Packet::Control { endpoint, length })
     }
 
@@ -585,7 +575,7 @@ impl<'a> Place<'a> {
         let wide = self.shared & BULK_LENGTH_OF_32_BITS != 0;
         let fixed = if wide { 10 } else { 8 };
         self.at_least(fixed)?;
-        let (endpoint, status) = (self.body[0], self.body[1]);
+        let endpoint = self.body[0];
         let low = u16_at(self.body, 2);
         let stream = u32_at(self.body, 4);
         let length = if wide {
@@ -594,16 +584,16 @@ impl<'a> Place<'a> {
             low
         };
         self.data(fixed, self.sends_onward(endpoint), length)?;
-        self.rule(is_address(endpoint) && self.status_holds(status))?;
+        self.rule(is_address(endpoint))?;
         self.rule(stream == 0 || self.shared & BULK_STREAMS != 0)?;
         Ok(Packet::Bulk { endpoint, length })
     }
 
     fn iso(&self) -> Result<Packet<'a>, u8> {
         self.at_least(4)?;
-        let (endpoint, status) = (self.body[0], self.body[1]);
+        let endpoint = self.body[0];
         self.data(4, true, u16_at(self.body, 2))?;
-        self.rule(is_address(endpoint) && self.status_holds(status))?;
+        self.rule(is_address(endpoint))?;
         // "Iso from the guest is OUT, from the host IN".
         self.rule(self.sends_onward(endpoint))?;
         Ok(Packet::Iso { endpoint })
@@ -611,10 +601,10 @@ impl<'a> Place<'a> {
 
     fn interrupt(&self) -> Result<Packet<'a>, u8> {
         self.at_least(4)?;
-        let (endpoint, status) = (self.body[0], self.body[1]);
+        let endpoint = self.body[0];
         let length = u16_at(self.body, 2);
         self.data(4, self.sends_onward(endpoint), length)?;
-        self.rule(is_address(endpoint) && self.status_holds(status))?;
+        self.rule(is_address(endpoint))?;
         // "interrupt data from the guest is OUT".
         self.rule(self.from == Host || !is_in(endpoint))?;
         Ok(Packet::Interrupt { endpoint, length })
@@ -625,8 +615,8 @@ impl<'a> Place<'a> {
         self.needs(BULK_RECEIVING)?;
         self.at_least(10)?;
         self.data(10, true, u32_at(self.body, 4))?;
-        let (endpoint, status) = (self.body[8], self.body[9]);
-        self.rule(is_address(endpoint) && is_in(endpoint) && status <= 6)?;
+        let endpoint = self.body[8];
+        self.rule(is_address(endpoint) && is_in(endpoint))?;
         Ok(Packet::BufferedBulk { endpoint })
     }
 }
