@@ -34,7 +34,7 @@ use Rattle.checks.specs.declared.Ruling.the-variants.{Denied, Granted, P
 use Rattle.checks.specs.Checks.{mistypedBy}
 use Rattle.events.specs.Status.{isStall}
 use Rattle.checks.specs.Change.{moveBy}
-use Rattle.checks.specs.Ruled.{taking, askedBy, unmatched, alone, scopeTo, expected, settledBy, repliedIn, streamedBy, ruled}
+use Rattle.checks.specs.Ruled.{taking, askedBy, unmatched, alone, scopeTo, settledBy, repliedIn, streamedBy, ruled}
 
 -- a choice, where its test is known
 module _ {A : Type 0} (b : Bool) (x y : A) where

@@ -38,6 +38,7 @@ isOpening Opens = true
 isOpening Closes = false
 isOpening Stalls = false
 
+-- it closes by a stall
 abbrev pub isStalling : StreamMove → Bool
 isStalling Opens = false
 isStalling Closes = false

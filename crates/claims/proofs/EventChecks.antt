@@ -22,7 +22,7 @@ use Rattle.requests.specs.Requests.{answers, lowest, Query, Answered}
 use Rattle.kinds.specs.Content.{Content}
 use Rattle.events.specs.declared.Typed.{Typed}
 use Rattle.events.specs.declared.Typed.the-variants.{Untyped}
-use Rattle.events.specs.Event.{Event, field, eventOf}
+use Rattle.events.specs.Event.{Event, eventOf}
 use Rattle.checks.specs.Checks.{traitsOf, outOfOrder, matchOf, numberFor, mistypedBy, isOpen, matchIn, isUnsolicited, noSuchRequest, numberOf, Match, streamClosed, settling, tooLong, noDevice, ackOwed, wrongType, idInUse, isFull}
 use Rattle.session.specs.declared.Session.{Session}
 use Rattle.session.specs.Step.{judged}

@@ -8,7 +8,7 @@ pub mod NumberByKind
 pub mod Movements
 pub mod PacketLists
 pub mod Watched
-pub mod Outcomes
+pub mod Statuses
 pub mod TestsInWords
 pub mod FitBorders
 pub mod Examples

@@ -16,7 +16,7 @@ use Rattle.requests.specs.declared.Requests.{Requests}
 use Rattle.requests.specs.Requests.{Place, placesOf, lowest, isSome, Free, Id, Answered}
 use Rattle.kinds.specs.Content.{Content}
 use Rattle.kinds.proofs.RoundTrip.{clean}
-use Rattle.events.specs.Event.{Event, field, eventOf}
+use Rattle.events.specs.Event.{Event, eventOf}
 use Rattle.checks.specs.Checks.{traitsOf, matchOf, numberFor, matchIn, isUnsolicited, noSuchRequest, numberOf, Unmatched, streamClosed, settling, isUnmatched, tooLong, _when_, firstOf}
 use Rattle.session.specs.declared.Session.{Session}
 use Rattle.session.specs.Session.{linkOf}

@@ -2,6 +2,7 @@
 -- document 01. It does not go by the classes of `events` nor run the checks; `AllowedExactly` says that the judge passes a packet exactly then.
 -- Assumes nothing: these are definitions and a statement.
 use Prim.Native.Nat.{ℕ, _≤_, _<_}
+use Prim.Native.String.{String}
 use mathlib.Core.Bool.{Bool, true, false, cond, not, _&&_, _||_}
 use mathlib.Core.List.{List, [], _∷_}
 use mathlib.Core.Option.{Option, none, some}
@@ -18,10 +19,10 @@ use Rattle.requests.specs.declared.Request.{Request}
 use Rattle.requests.specs.declared.Requests.{Requests}
 use Rattle.requests.specs.Requests.{placeAt, idsDiffer}
 use Rattle.header.specs.Link.{isGuest}
-use Rattle.kinds.specs.Content.{Content}
+use Rattle.kinds.specs.Content.{Content, named}
 use Rattle.kinds.specs.Codec.{layout}
 use Rattle.kinds.specs.Number.{dataLength, wireNumber}
-use Rattle.events.specs.Event.{field, eventOf}
+use Rattle.events.specs.Event.{eventOf}
 use Rattle.session.specs.declared.Session.{Session}
 use Rattle.session.specs.Session.{linkOf}
 use Rattle.session.specs.Step.{judged}
@@ -77,15 +78,19 @@ comesOnStream from kind inward = among (102 ∷ 104 ∷ []) kind || hostInterrup
 
 -- ---- what a packet names
 
+-- the number that it says under a field's name, 0 where it has no such field
+abbrev pub said : String → Content → ℕ
+said n p = named n (layout (p .kind)) (p .fields)
+
 abbrev pub endpointNamed : Content → Endpoint
-endpointNamed p = record { 0 = field "endpoint" p }
+endpointNamed p = record { 0 = said "endpoint" p }
 
 abbrev pub inwardOf : Content → Bool
 inwardOf p = isIn (endpointNamed p)
 
 -- the endpoint or interface byte of a reply: an interface in 11
 abbrev pub replyTarget : Content → ℕ
-replyTarget p = cond (eqb (p .kind) 11) (field "interface" p) (field "endpoint" p)
+replyTarget p = cond (eqb (p .kind) 11) (said "interface" p) (said "endpoint" p)
 
 abbrev pub countOf : Content → ℕ
 countOf p = dataLength (layout (p .kind)) (p .fields)
@@ -93,14 +98,14 @@ countOf p = dataLength (layout (p .kind)) (p .fields)
 -- the endpoint or interface byte of a request, "0 for what the kind lacks"
 abbrev pub requestTarget : Content → ℕ
 requestTarget p =
-    cond (among (12 ∷ 13 ∷ 15 ∷ 16 ∷ 25 ∷ 26 ∷ 100 ∷ 101 ∷ 103 ∷ []) (p .kind)) (field "endpoint" p) (cond (among (9 ∷ 10 ∷ []) (p .kind)) (field "interface" p) 0)
+    cond (among (12 ∷ 13 ∷ 15 ∷ 16 ∷ 25 ∷ 26 ∷ 100 ∷ 101 ∷ 103 ∷ []) (p .kind)) (said "endpoint" p) (cond (among (9 ∷ 10 ∷ []) (p .kind)) (said "interface" p) 0)
 
 -- what a reply says of its outcome: C-12, "0 is success and everything else an error"; "those with status 4"
 abbrev pub succeeded : Content → Bool
-succeeded p = eqb (field "status" p) 0
+succeeded p = eqb (said "status" p) 0
 
 abbrev pub stalled : Content → Bool
-stalled p = eqb (field "status" p) 4
+stalled p = eqb (said "status" p) 4
 
 -- what a place keeps of it: "id, kind, endpoint or interface byte, and length"
 abbrev pub requestOf : Content → Request
@@ -143,7 +148,7 @@ module _ (s : Session) (from : Side) (p : Content) where
   -- 28: the row of its endpoint has the type that it wants; "18, 19 (every mask bit)" bulk
   pub record RightType : Type 0 where
     pub type : (ty : ℕ) → wants from (p .kind) (inwardOf p) ≡ some ty → stateAt (s .rows) (endpointNamed p) .ty ≡ ty
-    pub types : among (18 ∷ 19 ∷ []) (p .kind) ≡ true → (r : ℕ) → r < 32 → hasBit (field "mask" p) r ≡ true → rowAt (s .rows) r .ty ≡ bulk
+    pub types : among (18 ∷ 19 ∷ []) (p .kind) ≡ true → (r : ℕ) → r < 32 → hasBit (said "mask" p) r ≡ true → rowAt (s .rows) r .ty ≡ bulk
 
   -- 29: "guest kinds 100 to 103 while a kind 6 or 9 waits"
   abbrev pub NoneSettling : Type 0

@@ -228,9 +228,9 @@ onStreams =
     -- closed at first; a start opens at once; a guest's iso needs a stream on its OUT row
     from-device (iso-packet Host 0 129 ∷ iso-packet Guest 0 1 ∷ start-iso 1 129 ∷ iso-packet Host 9 129 ∷ iso-packet Guest 0 1 ∷ start-iso 2 1 ∷ iso-packet Guest 0 1 ∷ []) (30 ∷ 30 ∷ 0 ∷ 0 ∷ 30 ∷ 0 ∷ 0 ∷ [])
     -- a stop closes by its status, whatever that says
-    ∷ from-device (start-iso 1 129 ∷ iso-status 1 0 129 ∷ stop-iso 2 129 ∷ iso-packet Host 0 129 ∷ iso-status 2 3 129 ∷ iso-packet Host 0 129 ∷ []) (0 ∷ 0 ∷ 0 ∷ 0 ∷ 0 ∷ 30 ∷ [])
+    ∷ from-device (start-iso 1 129 ∷ iso-status 1 0 129 ∷ stop-iso 2 129 ∷ iso-packet Host 0 129 ∷ iso-status 2 7 129 ∷ iso-packet Host 0 129 ∷ []) (0 ∷ 0 ∷ 0 ∷ 0 ∷ 0 ∷ 30 ∷ [])
     -- a start that is answered by an error closes
-    ∷ from-device (start-iso 1 129 ∷ iso-status 1 1 129 ∷ iso-packet Host 0 129 ∷ []) (0 ∷ 0 ∷ 30 ∷ [])
+    ∷ from-device (start-iso 1 129 ∷ iso-status 1 1 129 ∷ iso-packet Host 0 129 ∷ start-iso 2 129 ∷ iso-status 2 128 129 ∷ iso-packet Host 0 129 ∷ []) (0 ∷ 0 ∷ 30 ∷ 0 ∷ 0 ∷ 30 ∷ [])
     -- in the order of the statuses: the one to the stop closes, then the one to the start opens again
     ∷ from-device (start-iso 1 129 ∷ stop-iso 2 129 ∷ iso-status 2 0 129 ∷ iso-packet Host 0 129 ∷ iso-status 1 0 129 ∷ iso-packet Host 0 129 ∷ []) (0 ∷ 0 ∷ 0 ∷ 30 ∷ 0 ∷ 0 ∷ [])
     -- an open stream may be started, a closed one stopped
@@ -244,7 +244,7 @@ onStreams =
     -- id 0 in use: a status that matches is the reply; one that does not is unsolicited and leaves the request
     ∷ from-device (start-iso 0 129 ∷ iso-status 0 4 129 ∷ iso-status 0 0 129 ∷ get-config 0 ∷ iso-status 0 4 129 ∷ config-status 0 0 ∷ []) (0 ∷ 0 ∷ 33 ∷ 0 ∷ 0 ∷ 0 ∷ [])
     -- only with id 0 and status 4, and only 14, 17, 27
-    ∷ from-device (iso-status 0 3 129 ∷ iso-status 1 4 129 ∷ config-status 0 4 ∷ alt-status 0 4 0 ∷ []) (33 ∷ 33 ∷ 33 ∷ 33 ∷ [])
+    ∷ from-device (iso-status 0 3 129 ∷ iso-status 0 7 129 ∷ iso-status 0 132 129 ∷ iso-status 1 4 129 ∷ config-status 0 4 ∷ alt-status 0 4 0 ∷ []) (33 ∷ 33 ∷ 33 ∷ 33 ∷ 33 ∷ 33 ∷ [])
     -- a host's interrupt packet is stream data on an IN endpoint, its id not looked up, and a reply on an OUT one
     ∷ from-device (start-interrupt 1 131 ∷ interrupt-packet Host 77 131 0 ∷ interrupt-packet Guest 2 3 4 ∷ interrupt-packet Host 77 3 4 ∷ interrupt-packet Host 2 3 4 ∷ []) (0 ∷ 0 ∷ 0 ∷ 33 ∷ 0 ∷ [])
     ∷ []
@@ -274,13 +274,13 @@ settings =
     -- 8 with 0 to a 6 frees every data request, control too, and closes all streams; other requests stay
     from-device (control-packet Guest 1 0 0 ∷ bulk-packet Guest 2 2 0 ∷ interrupt-packet Guest 3 3 0 ∷ get-config 4 ∷ start-iso 5 129 ∷ set-config 6 ∷ config-status 6 0 ∷ control-packet Host 1 0 0 ∷ bulk-packet Host 2 2 0 ∷ interrupt-packet Host 3 3 0 ∷ iso-packet Host 0 129 ∷ config-status 4 0 ∷ iso-status 5 0 129 ∷ iso-packet Host 0 129 ∷ []) (0 ∷ 0 ∷ 0 ∷ 0 ∷ 0 ∷ 0 ∷ 0 ∷ 33 ∷ 33 ∷ 33 ∷ 30 ∷ 0 ∷ 0 ∷ 0 ∷ [])
     -- with an error, or to a 7, it frees its own request alone
-    ∷ from-device (bulk-packet Guest 1 2 0 ∷ start-iso 2 129 ∷ set-config 3 ∷ config-status 3 1 ∷ get-config 4 ∷ config-status 4 0 ∷ iso-packet Host 0 129 ∷ bulk-packet Host 1 2 0 ∷ []) (0 ∷ 0 ∷ 0 ∷ 0 ∷ 0 ∷ 0 ∷ 0 ∷ 0 ∷ [])
+    ∷ from-device (bulk-packet Guest 1 2 0 ∷ start-iso 2 129 ∷ set-config 3 ∷ config-status 3 7 ∷ get-config 4 ∷ config-status 4 0 ∷ iso-packet Host 0 129 ∷ bulk-packet Host 1 2 0 ∷ []) (0 ∷ 0 ∷ 0 ∷ 0 ∷ 0 ∷ 0 ∷ 0 ∷ 0 ∷ [])
     -- 11 with 0 to a 9: data requests and streams of that interface
     ∷ from-device (bulk-packet Guest 1 2 0 ∷ interrupt-packet Guest 2 3 0 ∷ control-packet Guest 3 0 0 ∷ start-bulk 4 130 ∷ start-interrupt 5 131 ∷ set-alt 6 1 ∷ alt-status 6 0 1 ∷ bulk-packet Host 1 2 0 ∷ buffered 1 130 ∷ interrupt-packet Host 2 3 0 ∷ interrupt-packet Host 0 131 0 ∷ control-packet Host 3 0 0 ∷ []) (0 ∷ 0 ∷ 0 ∷ 0 ∷ 0 ∷ 0 ∷ 0 ∷ 33 ∷ 30 ∷ 0 ∷ 0 ∷ 0 ∷ [])
     -- rows 0 and 16 are left out, though they have the interface
     ∷ from-device (control-packet Guest 1 0 0 ∷ control-packet Guest 2 128 8 ∷ start-iso 3 129 ∷ set-alt 4 0 ∷ alt-status 4 0 0 ∷ control-packet Host 1 0 0 ∷ control-packet Host 2 128 8 ∷ iso-packet Host 0 129 ∷ []) (0 ∷ 0 ∷ 0 ∷ 0 ∷ 0 ∷ 0 ∷ 0 ∷ 30 ∷ [])
     -- with an error, or to a 10, nothing else ends
-    ∷ from-device (bulk-packet Guest 1 2 0 ∷ set-alt 2 1 ∷ alt-status 2 5 1 ∷ guest-packet 10 3 (one 1 ∷ []) ∷ alt-status 3 0 1 ∷ bulk-packet Host 1 2 0 ∷ []) (0 ∷ 0 ∷ 0 ∷ 0 ∷ 0 ∷ 0 ∷ [])
+    ∷ from-device (bulk-packet Guest 1 2 0 ∷ set-alt 2 1 ∷ alt-status 2 255 1 ∷ guest-packet 10 3 (one 1 ∷ []) ∷ alt-status 3 0 1 ∷ bulk-packet Host 1 2 0 ∷ []) (0 ∷ 0 ∷ 0 ∷ 0 ∷ 0 ∷ 0 ∷ [])
     -- rows by the table at that time: an invalid row keeps its interface, another interface takes the row out
     ∷ from-device (bulk-packet Guest 1 2 0 ∷ bulk-packet Guest 2 130 0 ∷ set-alt 3 1 ∷ endpoint-table (rowsWith 1 1 255 2 3 3) (set plainInterfaces 18 5) ∷ alt-status 3 0 1 ∷ bulk-packet Host 1 2 0 ∷ bulk-packet Host 2 130 0 ∷ []) (0 ∷ 0 ∷ 0 ∷ 0 ∷ 0 ∷ 33 ∷ 0 ∷ [])
     ∷ []

@@ -16,7 +16,7 @@ use Rattle.requests.specs.Requests.{placeAt, freePlace, taken, isData, idsDiffe
 use Rattle.requests.specs.Clean.{Zeroed}
 use Rattle.kinds.specs.Content.{Value, Content}
 use Rattle.kinds.specs.Number.{wireNumber}
-use Rattle.events.specs.Event.{Event, field, eventOf}
+use Rattle.events.specs.Event.{Event, eventOf}
 use Rattle.session.specs.declared.Session.{Session}
 use Rattle.session.specs.Session.{linkOf}
 use Rattle.session.specs.Step.{judged}

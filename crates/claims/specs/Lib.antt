@@ -6,7 +6,7 @@ pub mod Exchange
 pub mod KeptByPacket
 pub mod PacketLists
 pub mod Watched
-pub mod Outcomes
+pub mod Statuses
 pub mod TestsInWords
 pub mod FitBorders
 pub mod Examples

@@ -23,11 +23,11 @@ use Rattle.kinds.specs.Content.{Content}
 use Rattle.kinds.specs.Codec.{layout}
 use Rattle.kinds.specs.Number.{wireNumber}
 use Rattle.packet.specs.Rows.{element}
-use Rattle.events.specs.Event.{field, eventOf}
+use Rattle.events.specs.Event.{eventOf}
 use Rattle.session.specs.declared.Session.{Session}
 use Rattle.session.specs.Session.{linkOf, sharedIn}
 use Rattle.session.specs.Step.{judged}
-use Rattle.claims.specs.Allowed.{among, isRequest, isReply, endpointNamed, inwardOf, succeeded}
+use Rattle.claims.specs.Allowed.{among, isRequest, isReply, endpointNamed, inwardOf, succeeded, said}
 use Rattle.claims.specs.NumberByKind.{answeredAt}
 
 -- what an endpoint table says of row r
@@ -58,7 +58,7 @@ abbrev pub streamType : ℕ → ℕ
 streamType kind = cond (among (12 ∷ 14 ∷ []) kind) iso (cond (among (15 ∷ 17 ∷ []) kind) interrupt bulk)
 
 abbrev pub startKind : ℕ → ℕ
-startKind status = cond (eqb status 14) 12 (cond (eqb status 17) 15 25)
+startKind kind = cond (eqb kind 14) 12 (cond (eqb kind 17) 15 25)
 
 -- row r's stream is that of which a 14, 17 or 27 speaks: "only where the row's type is that kind's"
 abbrev pub reportsOn : Session → Content → ℕ → Bool
@@ -83,7 +83,7 @@ streamAfter s p r =
     -- "8 with status 0 to a 6 .. closes all streams"
     (cond (eqb (p .kind) 8 && succeeded p && eqb (answeredKind (s .requests) p) 6) false
     -- "11 with status 0 to a 9 does so for rows other than 0 and 16 of that interface"
-    (cond (eqb (p .kind) 11 && succeeded p && eqb (answeredKind (s .requests) p) 9 && not (eqb r 0 || eqb r 16) && eqb (rowAt (s .rows) r .interface) (field "interface" p)) false
+    (cond (eqb (p .kind) 11 && succeeded p && eqb (answeredKind (s .requests) p) 9 && not (eqb r 0 || eqb r 16) && eqb (rowAt (s .rows) r .interface) (said "interface" p)) false
     -- all else leaves it
     (rowAt (s .rows) r .streaming))))))
 

@@ -19,12 +19,12 @@ use Rattle.kinds.specs.Content.{Content}
 use Rattle.kinds.specs.Number.{wireNumber}
 use Rattle.events.specs.declared.Typed.{Typed}
 use Rattle.events.specs.declared.Typed.the-variants.{Untyped, OfEndpoint, OfMask}
-use Rattle.events.specs.Event.{field, eventOf}
+use Rattle.events.specs.Event.{eventOf}
 use Rattle.checks.specs.Checks.{isBegun, isDone, mistypedBy, Check, _when_, firstOf}
 use Rattle.session.specs.declared.Session.{Session}
 use Rattle.session.specs.Session.{linkOf}
 use Rattle.session.specs.Step.{judged}
-use Rattle.claims.specs.Allowed.{among, isRequest, isReply, answersKind, carriesTarget, wants, comesOnStream, endpointNamed, inwardOf, replyTarget, countOf, stalled}
+use Rattle.claims.specs.Allowed.{among, isRequest, isReply, answersKind, carriesTarget, wants, comesOnStream, endpointNamed, inwardOf, replyTarget, countOf, stalled, said}
 
 -- ---- what the sentences ask
 
@@ -40,7 +40,7 @@ rowBy none p = Untyped
 rowBy (some k) p = OfEndpoint (endpointNamed p) k
 
 abbrev pub typedBy : Side → Content → Typed
-typedBy from p = cond (among (18 ∷ 19 ∷ []) (p .kind)) (OfMask (field "mask" p) bulk) (rowBy (wants from (p .kind) (inwardOf p)) p)
+typedBy from p = cond (among (18 ∷ 19 ∷ []) (p .kind)) (OfMask (said "mask" p) bulk) (rowBy (wants from (p .kind) (inwardOf p)) p)
 
 -- a request is one that the reply answers: its id, its kind and, where both carry one, its endpoint or interface
 abbrev pub answersBy : Content → Request → Bool

@@ -16,7 +16,7 @@ use Rattle.watch.specs.declared.Watch.{Watch}
 use Rattle.watch.specs.Watch.{RowWatch, watchAt, breaksOn, gapOn}
 use Rattle.kinds.specs.Content.{Content}
 use Rattle.kinds.specs.Number.{wireNumber}
-use Rattle.events.specs.Event.{field, eventOf}
+use Rattle.events.specs.Event.{eventOf}
 use Rattle.session.specs.declared.Session.{Session}
 use Rattle.session.specs.Session.{linkOf}
 use Rattle.session.specs.Step.{judged}

@@ -16,7 +16,7 @@ pub mod Unique
 pub mod Effects
 pub mod PassesInWords
 pub mod WriterNumbers
-pub mod Outcomes
+pub mod Statuses
 pub mod AtWork
 pub mod Alike
 pub mod AlikeHello

@@ -12,7 +12,7 @@ pub mod Lending
 pub mod Marked
 pub mod Unique
 pub mod Effects
-pub mod Outcomes
+pub mod Statuses
 pub mod PassesInWords
 pub mod WriterNumbers
 pub mod AtWork

@@ -11,7 +11,8 @@ use Rattle.octets.specs.Little.{le}
 use Rattle.header.specs.declared.Side.{Side}
 use Rattle.header.specs.declared.Side.the-variants.{Guest, Host}
 use Rattle.kinds.specs.Table.{words, Kind, kinds}
-use Rattle.kinds.specs.Content.{Content}
+use Rattle.kinds.specs.Content.{one, Content, packetOf}
+use Rattle.kinds.specs.Codec.{layout}
 use Rattle.kinds.specs.Slots.{from}
 use Rattle.kinds.specs.Number.{sends, tailOk, isNone}
 use Rattle.packet.specs.declared.Optional32.{Optional32}
@@ -19,7 +20,7 @@ use Rattle.packet.specs.declared.Optional32.the-variants.{Absent, Present}
 use Rattle.packet.specs.Rows.{wordOf as rowsWord}
 use Rattle.device.specs.Device.{control, iso, bulk, interrupt, invalid}
 use Rattle.events.specs.Meaning.{Class, Hello, Connect, Interfaces, Endpoints, Disconnect, Reset, Ack, Cancel, Filter, StartRequest, PlainRequest, StreamStatus, PlainReply, StreamOut, StreamIn, Who, sender, guest, host, host-in, Line, meanings, admits, lookUp}
-use Rattle.events.specs.Event.{eventOf}
+use Rattle.events.specs.Event.{field, eventOf}
 use Rattle.events.specs.Status.{isSuccess, isStall}
 
 -- ---- lines by their class
@@ -200,5 +201,21 @@ picked p [] = []
 picked p (x ∷ xs) = cond (p x) (x ∷ picked p xs) (picked p xs)
 
 -- of all bytes, 0 alone is success and 4 alone a stall
-pub outcomes : (picked isSuccess (from 256 0) ≡ (0 ∷ [])) × (picked isStall (from 256 0) ≡ (4 ∷ []))
-outcomes = (refl, refl)
+pub success-and-stall : (picked isSuccess (from 256 0) ≡ (0 ∷ [])) × (picked isStall (from 256 0) ≡ (4 ∷ []))
+success-and-stall = (refl, refl)
+
+-- and the status that is asked is the one that was sent, in every kind that has one
+pub status-as-sent : (id x a b c d e f : ℕ) (s : List ℕ)
+    → (field "status" (packetOf 8 id (one x ∷ one a ∷ []) s) ≡ x)
+    × (field "status" (packetOf 11 id (one x ∷ one a ∷ one b ∷ []) s) ≡ x)
+    × (field "status" (packetOf 14 id (one x ∷ one a ∷ []) s) ≡ x)
+    × (field "status" (packetOf 17 id (one x ∷ one a ∷ []) s) ≡ x)
+    × (field "status" (packetOf 20 id (one a ∷ one b ∷ one x ∷ []) s) ≡ x)
+    × (field "status" (packetOf 27 id (one a ∷ one b ∷ one x ∷ []) s) ≡ x)
+    × (field "status" (packetOf 100 id (one a ∷ one b ∷ one c ∷ one x ∷ one d ∷ one e ∷ one f ∷ []) s) ≡ x)
+    × (field "status" (packetOf 101 id (one a ∷ one x ∷ one b ∷ one c ∷ one d ∷ []) s) ≡ x)
+    × (field "status" (packetOf 102 id (one a ∷ one x ∷ one b ∷ []) s) ≡ x)
+    × (field "status" (packetOf 103 id (one a ∷ one x ∷ one b ∷ []) s) ≡ x)
+    × (field "status" (packetOf 104 id (one a ∷ one b ∷ one c ∷ one x ∷ []) s) ≡ x)
+unfolding layout kinds
+status-as-sent id x a b c d e f s = (refl, refl, refl, refl, refl, refl, refl, refl, refl, refl, refl)

@@ -1,29 +1,28 @@
 -- A packet has the same number with any status (`any-status`), for the writer too (`any-status-written`).
 -- No check reads a status: which fields are there and how many numbers they have stays, other fields are looked up under other names, and of
--- the table's lines none has a rule for it (`free-found`). What is written is as long.
+-- the table's lines none has a rule for it (`found-unread`). What is written is as long.
 -- Assumes nothing.
 use Prim.Native.Nat.{ℕ, zero, suc, _+_, _*_}
 use Prim.Native.String.{String}
-use native.Mathlib.Nat.{add-zero}
 use mathlib.Core.Path.{_≡_, refl, sym, ap, subst, _∙_}
-use mathlib.Core.Bool.{Bool, true, false, cond, not, _&&_, _||_, false≢true}
-use mathlib.Core.List.{List, [], _∷_, _++_}
+use mathlib.Core.Bool.{Bool, true, false, cond, not, _&&_, false≢true}
+use mathlib.Core.List.{List, [], _∷_}
 use mathlib.Core.Option.{Option, none, some, Option·none-ne-some, Option·some-injective}
 use lib.ListN.{length, replicate, length-replicate, length-append}
-use lib.Dec.{eqb, ltb}
+use lib.Dec.{eqb}
 use lib.Text.{eqt}
 use borrow.Table.Steps.{cases}
-use Rattle.octets.proofs.Logic.{and-parts, false-not}
+use Rattle.octets.proofs.Logic.{and-parts, or-parts, false-not}
 use Rattle.header.specs.declared.Side.{Side}
 use Rattle.header.specs.declared.Link.{Link}
-use Rattle.header.specs.Link.{sharedSet, idWidth}
-use Rattle.header.specs.Header.{headerBytes, headerNumber}
+use Rattle.header.specs.Link.{sharedSet}
+use Rattle.header.specs.Header.{headerBytes}
 use Rattle.kinds.specs.Table.{Rule, any, holding-zero, speed, at-most-32, endpoint-type, endpoint, endpoint-in, endpoint-onward, endpoint-out-of-guest, as-endpoint, nonzero, zero-without, Field, Kind, Tail, nothing, words, string, payload, payload-onward, kinds}
-use Rattle.kinds.specs.Content.{Value, Content, shared, sizeOf, bytesOfValue, bytes, named, find, fieldsOf}
-use Rattle.kinds.specs.Number.{surplus, complete, dataLength, tailOk, sizeOk, holds, orElse, firstBad, badField, badFields, bad, kindNumber, wireNumber, byKind, inOrder}
-use Rattle.kinds.specs.Codec.{layout, orNext, bodyOf, encode, packetNumber, writeNumber}
+use Rattle.kinds.specs.Content.{Value, Content, shared, sizeOf, bytesOfValue, bytes, firstNumber, named, find, fieldsOf}
+use Rattle.kinds.specs.Number.{surplus, complete, dataLength, tailOk, holds, orElse, firstBad, badField, badFields, bad, kindNumber, wireNumber, byKind}
+use Rattle.kinds.specs.Codec.{layout, bodyOf, encode, packetNumber, writeNumber}
 use Rattle.kinds.proofs.FieldBytes.{length-all}
-use Rattle.kinds.specs.AnyStatus.{replacedBy, statusIn, withStatus, AnyStatus, AnyStatusWritten}
+use Rattle.kinds.specs.AnyStatus.{replacedBy, statusIn, withStatus, hasStatus, AnyStatus, AnyStatusWritten}
 
 -- ---- of the table: a status has no rule, and is not what a check looks up by its name
 
@@ -55,9 +54,9 @@ any-holds as-endpoint h from caps e xs i = absurd (false≢true h)
 any-holds nonzero h from caps e xs i = absurd (false≢true h)
 any-holds (zero-without j) h from caps e xs i = absurd (false≢true h)
 
--- the names that the checks look up
+-- the names that the checks look up, those of the session too
 abbrev lookedUp : String → Bool
-lookedUp n = cond (eqt "endpoint" n) true (cond (eqt "length" n) true (eqt "length high" n))
+lookedUp n = cond (eqt "endpoint" n) true (cond (eqt "interface" n) true (cond (eqt "mask" n) true (cond (eqt "length" n) true (eqt "length high" n))))
 
 abbrev unread : List Field → Bool
 unread [] = true
@@ -129,18 +128,28 @@ bad-same from caps e x (f ∷ fs) (v ∷ vs) at u =
 
 -- ---- the number stays
 
+flat : (b : Bool) → cond b true true ≡ true
+flat true = refl
+flat false = refl
+
 module _ (x : ℕ) (fs : List Field) (vs : List Value) (u : unread fs ≡ true) where
   endpoint-same : named "endpoint" fs (statusIn x fs vs) ≡ named "endpoint" fs vs
   endpoint-same = named-same "endpoint" (λ m t. rw t) x fs vs u
+
+  interface-same : named "interface" fs (statusIn x fs vs) ≡ named "interface" fs vs
+  interface-same = named-same "interface" (λ m t. rw t (flat (eqt "endpoint" m))) x fs vs u
+
+  mask-same : named "mask" fs (statusIn x fs vs) ≡ named "mask" fs vs
+  mask-same = named-same "mask" (λ m t. rw (t, flat (eqt "interface" m)) (flat (eqt "endpoint" m))) x fs vs u
 
   length-field-same : dataLength fs (statusIn x fs vs) ≡ dataLength fs vs
   length-field-same = rw (low, high)
     where
       low : named "length" fs (statusIn x fs vs) ≡ named "length" fs vs
-      low = named-same "length" (λ m t. rw t (cases (eqt "endpoint" m) (λ a. rw a) (λ a. rw a))) x fs vs u
+      low = named-same "length" (λ m t. rw (t, flat (eqt "mask" m), flat (eqt "interface" m)) (flat (eqt "endpoint" m))) x fs vs u
 
       high : named "length high" fs (statusIn x fs vs) ≡ named "length high" fs vs
-      high = named-same "length high" (λ m t. rw t (cases (eqt "endpoint" m) (λ a. rw a) (λ a. rw a (cases (eqt "length" m) (λ b. rw b) (λ b. rw b))))) x fs vs u
+      high = named-same "length high" (λ m t. rw (t, flat (eqt "length" m), flat (eqt "mask" m), flat (eqt "interface" m)) (flat (eqt "endpoint" m))) x fs vs u
 
   tail-same : (t : Tail) (from : Side) (n : ℕ) → tailOk t from fs (statusIn x fs vs) n ≡ tailOk t from fs vs n
   tail-same nothing from n = refl
@@ -201,3 +210,58 @@ encoded-same l p x =
 pub any-status-written : AnyStatusWritten
 unfolding writeNumber packetNumber
 any-status-written l p x room = rw (any-status l p x, encoded-same l p x)
+
+-- ---- what the session looks up
+
+pub record Kept (fs : List Field) (vs ws : List Value) : Type 0 where
+  pub endpoint : named "endpoint" fs ws ≡ named "endpoint" fs vs
+  pub interface : named "interface" fs ws ≡ named "interface" fs vs
+  pub mask : named "mask" fs ws ≡ named "mask" fs vs
+  pub length : dataLength fs ws ≡ dataLength fs vs
+
+pub kept : (p : Content) (x : ℕ) → Kept (layout (p .kind)) (p .fields) (withStatus x p .fields)
+unfolding layout
+kept p x = go (find (p .kind) kinds) refl
+  where
+    go : (o : Option Kind) → find (p .kind) kinds ≡ o → Kept (fieldsOf o) (p .fields) (statusIn x (fieldsOf o) (p .fields))
+    go none f = record { endpoint = refl; interface = refl; mask = refl; length = refl }
+    go (some k) f =
+        let u : unread (k .fields) ≡ true = found-unread (p .kind) kinds k all-unread f in
+        record {
+          endpoint = endpoint-same x (k .fields) (p .fields) u;
+          interface = interface-same x (k .fields) (p .fields) u;
+          mask = mask-same x (k .fields) (p .fields) u;
+          length = length-field-same x (k .fields) (p .fields) u;
+        }
+
+-- whether there is a status
+abbrev isFilled : Value → Bool
+isFilled none = false
+isFilled (some []) = false
+isFilled (some (x ∷ xs)) = true
+
+abbrev pub stated : List Field → List Value → Bool
+stated [] vs = false
+stated (f ∷ fs) [] = false
+stated (f ∷ fs) (v ∷ vs) = cond (eqt "status" (f .name)) (isFilled v) (stated fs vs)
+
+pub status-is : (x : ℕ) (fs : List Field) (vs : List Value) → named "status" fs (statusIn x fs vs) ≡ cond (stated fs vs) x 0
+status-is x [] vs = refl
+status-is x (f ∷ fs) [] = refl
+status-is x (f ∷ fs) (v ∷ vs) = cases (eqt "status" (f .name)) (λ t. rw t (first v)) (λ t. rw t (status-is x fs vs))
+  where
+    first : (v : Value) → firstNumber (replacedBy x v) ≡ cond (isFilled v) x 0
+    first none = refl
+    first (some []) = refl
+    first (some (y ∷ ys)) = refl
+
+-- where no field is a status, none is replaced
+pub none-replaced : (x : ℕ) (fs : List Field) (vs : List Value) → hasStatus fs ≡ false → statusIn x fs vs ≡ vs
+none-replaced x [] vs n = refl
+none-replaced x (f ∷ fs) [] n = refl
+none-replaced x (f ∷ fs) (v ∷ vs) n = let h = or-parts (eqt "status" (f .name)) (hasStatus fs) n in rw (h .0, none-replaced x fs vs (h .1))
+
+-- an endpoint table has none
+pub table-kept : (x : ℕ) (vs : List Value) → statusIn x (layout 5) vs ≡ vs
+unfolding layout kinds
+table-kept x vs = none-replaced x (layout 5) vs refl

@@ -1,22 +1,23 @@
 -- C-12: "every status byte is allowed": a packet has the same number with any status (`any-status`), and so it has for the writer
--- (`any-status-written`).
--- Assumes nothing: these are definitions, examples by computation, and the statements that `proofs/AnyStatus.antt` proves.
-use Prim.Native.Nat.{ℕ}
-use mathlib.Core.Bool.{cond}
-use mathlib.Core.List.{List, [], _∷_}
+-- (`any-status-written`). In the bytes, a packet with another status is a body with another byte in one place (`status-byte`).
+-- Assumes nothing: these are definitions, examples by computation, and the statements that `proofs/AnyStatus.antt` and
+-- `proofs/StatusByte.antt` prove.
+use Prim.Native.Nat.{ℕ, _+_}
+use mathlib.Core.Bool.{Bool, true, false, cond, _||_}
+use mathlib.Core.List.{List, [], _∷_, _++_}
 use mathlib.Core.Option.{none, some}
 use mathlib.Core.Path.{_≡_, refl}
-use lib.ListN.{length, replicate}
+use lib.ListN.{length, replicate, set}
 use lib.Text.{eqt}
 use Rattle.header.specs.declared.Link.{Link}
-use Rattle.kinds.specs.Table.{Field, kinds}
-use Rattle.kinds.specs.Content.{Value, one, Content, packetOf}
+use Rattle.kinds.specs.Table.{Bits, Field, Kind, kinds}
+use Rattle.kinds.specs.Content.{Value, one, Content, packetOf, shared, sizeOf}
 use Rattle.kinds.specs.Number.{wireNumber}
-use Rattle.kinds.specs.Codec.{layout, writeNumber}
+use Rattle.kinds.specs.Codec.{layout, contentAt, writeNumber}
 
 -- ---- a packet with another status
 
--- a field's numbers, one in all kinds that have a status, each replaced by x
+-- x in the place of each of a field's numbers; a status has one
 abbrev pub replacedBy : ℕ → Value → Value
 replacedBy x none = none
 replacedBy x (some xs) = some (replicate (length xs) x)
@@ -29,16 +30,45 @@ statusIn x (f ∷ fs) (v ∷ vs) = cond (eqt "status" (f .name)) (replacedBy x v
 abbrev pub withStatus : ℕ → Content → Content
 withStatus x p = record { kind = p .kind; id = p .id; fields = statusIn x (layout (p .kind)) (p .fields); rest = p .rest }
 
--- kinds 8, 20, 27, 100, 101 and 104: status first, last, and between; and 7, which has none
-pub with-status : (withStatus 7 (packetOf 8 5 (one 0 ∷ one 1 ∷ []) []) ≡ packetOf 8 5 (one 7 ∷ one 1 ∷ []) [])
-    × (withStatus 7 (packetOf 20 5 (one 1 ∷ one 2 ∷ one 0 ∷ []) []) ≡ packetOf 20 5 (one 1 ∷ one 2 ∷ one 7 ∷ []) [])
-    × (withStatus 7 (packetOf 27 5 (one 1 ∷ one 2 ∷ one 0 ∷ []) []) ≡ packetOf 27 5 (one 1 ∷ one 2 ∷ one 7 ∷ []) [])
-    × (withStatus 7 (packetOf 100 5 (one 1 ∷ one 2 ∷ one 3 ∷ one 0 ∷ one 5 ∷ one 6 ∷ one 8 ∷ []) (9 ∷ [])) ≡ packetOf 100 5 (one 1 ∷ one 2 ∷ one 3 ∷ one 7 ∷ one 5 ∷ one 6 ∷ one 8 ∷ []) (9 ∷ []))
-    × (withStatus 7 (packetOf 101 5 (one 1 ∷ one 0 ∷ one 2 ∷ one 3 ∷ none ∷ []) (9 ∷ [])) ≡ packetOf 101 5 (one 1 ∷ one 7 ∷ one 2 ∷ one 3 ∷ none ∷ []) (9 ∷ []))
-    × (withStatus 7 (packetOf 104 5 (one 1 ∷ one 2 ∷ one 3 ∷ one 0 ∷ []) (9 ∷ [])) ≡ packetOf 104 5 (one 1 ∷ one 2 ∷ one 3 ∷ one 7 ∷ []) (9 ∷ []))
-    × (withStatus 7 (packetOf 7 5 [] []) ≡ packetOf 7 5 [] [])
+-- the eleven kinds that have a status, whatever their other fields hold; and 12, which has none
+pub with-status : (x id s : ℕ) (a b c d e f : Value) (rest : List ℕ)
+    → (withStatus x (packetOf 8 id (one s ∷ a ∷ []) rest) ≡ packetOf 8 id (one x ∷ a ∷ []) rest)
+    × (withStatus x (packetOf 11 id (one s ∷ a ∷ b ∷ []) rest) ≡ packetOf 11 id (one x ∷ a ∷ b ∷ []) rest)
+    × (withStatus x (packetOf 14 id (one s ∷ a ∷ []) rest) ≡ packetOf 14 id (one x ∷ a ∷ []) rest)
+    × (withStatus x (packetOf 17 id (one s ∷ a ∷ []) rest) ≡ packetOf 17 id (one x ∷ a ∷ []) rest)
+    × (withStatus x (packetOf 20 id (a ∷ b ∷ one s ∷ []) rest) ≡ packetOf 20 id (a ∷ b ∷ one x ∷ []) rest)
+    × (withStatus x (packetOf 27 id (a ∷ b ∷ one s ∷ []) rest) ≡ packetOf 27 id (a ∷ b ∷ one x ∷ []) rest)
+    × (withStatus x (packetOf 100 id (a ∷ b ∷ c ∷ one s ∷ d ∷ e ∷ f ∷ []) rest) ≡ packetOf 100 id (a ∷ b ∷ c ∷ one x ∷ d ∷ e ∷ f ∷ []) rest)
+    × (withStatus x (packetOf 101 id (a ∷ one s ∷ b ∷ c ∷ d ∷ []) rest) ≡ packetOf 101 id (a ∷ one x ∷ b ∷ c ∷ d ∷ []) rest)
+    × (withStatus x (packetOf 102 id (a ∷ one s ∷ b ∷ []) rest) ≡ packetOf 102 id (a ∷ one x ∷ b ∷ []) rest)
+    × (withStatus x (packetOf 103 id (a ∷ one s ∷ b ∷ []) rest) ≡ packetOf 103 id (a ∷ one x ∷ b ∷ []) rest)
+    × (withStatus x (packetOf 104 id (a ∷ b ∷ c ∷ one s ∷ []) rest) ≡ packetOf 104 id (a ∷ b ∷ c ∷ one x ∷ []) rest)
+    × (withStatus x (packetOf 12 id (a ∷ b ∷ c ∷ []) rest) ≡ packetOf 12 id (a ∷ b ∷ c ∷ []) rest)
 unfolding layout kinds
-with-status = (refl, refl, refl, refl, refl, refl, refl)
+with-status x id s a b c d e f rest = (refl, refl, refl, refl, refl, refl, refl, refl, refl, refl, refl, refl)
+
+-- ---- where the status stands
+
+-- some field is a status
+abbrev pub hasStatus : List Field → Bool
+hasStatus [] = false
+hasStatus (f ∷ fs) = eqt "status" (f .name) || hasStatus fs
+
+-- its place, counted from the body's first byte; `has` says which fields are there
+abbrev pub statusAt : (Bits → Bool) → List Field → ℕ
+statusAt has [] = 0
+statusAt has (f ∷ fs) = cond (eqt "status" (f .name)) 0 (sizeOf has f + statusAt has fs)
+
+-- the numbers of the kinds that have a status, each with its place
+abbrev places : (Bits → Bool) → List Kind → List (ℕ × ℕ)
+places has [] = []
+places has (k ∷ ks) = cond (hasStatus (k .fields)) ((k .number, statusAt has (k .fields)) ∷ []) [] ++ places has ks
+
+-- the same whatever has been shared
+pub status-places : (caps : ℕ) → places (shared caps) kinds
+    ≡ ((8, 0) ∷ (11, 0) ∷ (14, 0) ∷ (17, 0) ∷ (20, 8) ∷ (27, 5) ∷ (100, 3) ∷ (101, 1) ∷ (102, 1) ∷ (103, 1) ∷ (104, 9) ∷ [])
+unfolding kinds
+status-places caps = refl
 
 -- ---- the statements
 
@@ -49,3 +79,8 @@ AnyStatus = (l : Link) (p : Content) (x : ℕ) → wireNumber l (withStatus x p)
 -- and of a packet to be written into so many bytes, 10 to 12 and 40 included
 abbrev pub AnyStatusWritten : Type 0
 AnyStatusWritten = (l : Link) (p : Content) (x room : ℕ) → writeNumber l (withStatus x p) room ≡ writeNumber l p room
+
+-- a body with another byte in the place of its status reads as the packet with that status, a body that is cut short too
+abbrev pub StatusByte : Type 0
+StatusByte = (caps kind id : ℕ) (body : List ℕ) (x : ℕ) → hasStatus (layout kind) ≡ true
+    → contentAt caps kind id (set body (statusAt (shared caps) (layout kind)) x) ≡ withStatus x (contentAt caps kind id body)

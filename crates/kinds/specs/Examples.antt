@@ -98,9 +98,8 @@ kindsWith n (k ∷ ks) = cond (has n (k .fields)) (k .number ∷ kindsWith n ks)
 pub spelt : (allSpelt kinds ≡ true)
     × (kindsWith "length" kinds ≡ (100 ∷ 101 ∷ 102 ∷ 103 ∷ 104 ∷ []))
     × (kindsWith "length high" kinds ≡ (101 ∷ []))
-    × (kindsWith "status" kinds ≡ (8 ∷ 11 ∷ 14 ∷ 17 ∷ 20 ∷ 27 ∷ 100 ∷ 101 ∷ 102 ∷ 103 ∷ 104 ∷ []))
 unfolding kinds
-spelt = (refl, refl, refl, refl)
+spelt = (refl, refl, refl)
 
 -- ---- numbers
 

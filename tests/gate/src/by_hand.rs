@@ -132,7 +132,7 @@ impl Hand {
         }
     }
 
-    fn status(self, row: usize, id: u64, status: u8) -> Hand {
+    pub fn status(self, row: usize, id: u64, status: u8) -> Hand {
         let endpoint = endpoint_of(row);
         match self.type_of(row) {
             ISO => self.sent(Host, 14, id, &[status, endpoint], 0),

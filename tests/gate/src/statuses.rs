@@ -1,6 +1,6 @@
 //! Every status byte in every kind that carries one: both ends, both widths of an id, replies to each
 //! kind of request, and statuses that answer none. The numbers are those written down here, and the
-//! plain gate agrees after each call.
+//! plain gate agrees, in its watch too.
 
 use plain::Side;
 use tools::hex;
@@ -169,14 +169,22 @@ fn bytes(digits: &str) -> Vec<u8> {
     hex::read(digits).expect("hex digits")
 }
 
+/// The word that both hellos offer.
+fn word(wide: bool) -> u32 {
+    STREAMS | MAX_PACKET | BULK_RECEIVING | width(wide)
+}
+
 /// The session with everything that a status could end, the packet with this status, and what shows
-/// what it ended: the same packet again, the reply to the request that waits, data on each stream.
+/// what it ended: the same packet again, the reply to the request that waits, data on each stream,
+/// and the replies to the starts.
 fn script(sample: &Sample, wide: bool, status: u8) -> Hand {
-    let word = STREAMS | MAX_PACKET | BULK_RECEIVING | width(wide);
-    let mut hand = Hand::with(word, ROWS.to_vec())
+    let mut hand = Hand::with(word(wide), ROWS.to_vec())
         .start(18, 60)
         .start(19, 61)
         .start(20, 62)
+        .data(18, 0)
+        .data(19, 0)
+        .data(20, 0)
         .sent(Guest, 101, WAITING, &[0x85, 0, 4, 0, 0, 0, 0, 0], 0);
     if let Some((kind, body)) = sample.asked {
         hand = hand.sent(Guest, kind, ASKED, &bytes(body), 0);
@@ -209,12 +217,28 @@ fn script(sample: &Sample, wide: bool, status: u8) -> Hand {
             if settled { 33 } else { 0 },
         );
     for row in [18, 19, 20] {
-        hand = hand.data(row, 0);
+        hand = hand.data(row, 1);
         if !open(row) {
             hand = hand.refused(30);
         }
     }
+    // The starts still wait, and their success opens.
+    for (row, id) in [(18, 60), (19, 61), (20, 62)] {
+        hand = hand.status(row, id, SUCCESS).data(row, 2);
+    }
     hand
+}
+
+/// The packet with this status where there is no device.
+fn after_disconnect(sample: &Sample, wide: bool, status: u8) -> Hand {
+    let body = bytes(&sample.body.replace("ss", &format!("{status:02x}")));
+    Hand::with(word(wide), ROWS.to_vec()).disconnect().sent(
+        sample.from,
+        sample.kind,
+        sample.id,
+        &body,
+        25,
+    )
 }
 
 pub fn every_byte() -> Result<String, String> {
@@ -223,21 +247,14 @@ pub fn every_byte() -> Result<String, String> {
     for sample in &samples {
         for wide in [false, true] {
             for status in 0..=255 {
-                let hand = script(sample, wide, status);
-                let named = |wrong: String| {
-                    let Sample { from, kind, id, .. } = sample;
-                    format!("{from:?} {kind}, id {id}, status {status}, 64 bits {wide}: {wrong}")
-                };
-                for run in [run as Run, run_by_value] {
-                    let told = by_drive(run, &hand.script);
-                    let numbers: Vec<u8> = told.calls.iter().map(|call| call.number).collect();
-                    if numbers != hand.numbers {
-                        return Err(named(format!("{numbers:?}, not {:?}", hand.numbers)));
-                    }
-                    calls += numbers.len();
+                for make in [script, after_disconnect] {
+                    let hand = make(sample, wide, status);
+                    as_written(&hand).map_err(|wrong| {
+                        let Sample { from, kind, id, .. } = sample;
+                        format!("{from:?} {kind}, id {id}, status {status}, wide {wide}: {wrong}")
+                    })?;
+                    calls += hand.numbers.len();
                 }
-                // All of the session that a user reads, and every handed-out packet.
-                compare(&hand.script).map_err(named)?;
             }
         }
     }
@@ -245,4 +262,17 @@ pub fn every_byte() -> Result<String, String> {
         "{} packets with each status, in {calls} calls",
         samples.len()
     ))
+}
+
+/// Both functions of the library give the numbers that are written down. The plain gate gives the
+/// same answers, and has the same buffers and the same watch at the end.
+fn as_written(hand: &Hand) -> Result<(), String> {
+    for run in [run as Run, run_by_value] {
+        let told = by_drive(run, &hand.script);
+        let numbers: Vec<u8> = told.calls.iter().map(|call| call.number).collect();
+        if numbers != hand.numbers {
+            return Err(format!("{numbers:?}, not {:?}", hand.numbers));
+        }
+    }
+    compare(&hand.script).map(drop)
 }

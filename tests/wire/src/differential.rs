@@ -147,9 +147,9 @@ impl Seen {
     }
 }
 
-/// No field rule speaks of these kinds: any id, no endpoint, no status.
+/// No field rule speaks of these kinds: any id, no endpoint.
 fn has_field_rule(kind: u32) -> bool {
-    !matches!(kind, 3 | 6 | 7 | 9 | 10 | 21)
+    !matches!(kind, 3 | 6..=11 | 20 | 21)
 }
 
 fn side(from_guest: bool) -> &'static str {

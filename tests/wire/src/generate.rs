@@ -103,6 +103,18 @@ pub fn packet(random: &mut Random) -> (Link, Vec<u8>) {
     (link, oracle::write(&link, &packet))
 }
 
+/// The bytes of a packet of this kind that passes.
+pub fn passing(random: &mut Random, link: &Link, kind: &oracle::Kind) -> Vec<u8> {
+    loop {
+        let mut packet = any_packet(random, link, kind);
+        fit(random, link, &mut packet);
+        let bytes = oracle::write(link, &packet);
+        if oracle::read(link, &bytes).is_ok() {
+            return bytes;
+        }
+    }
+}
+
 /// Any values in the fields that the link lets onto the wire.
 fn any_packet(random: &mut Random, link: &Link, kind: &oracle::Kind) -> Packet {
     let id_size = link.header_size(kind.number) - 8;

@@ -1,5 +1,5 @@
 //! Tests of the wire library: captured packets, marked examples, generated and damaged packets, ignored bits and words,
-//! packets to be written.
+//! every status byte, packets to be written.
 //!
 //! `wire [DIRECTORY]`: the directory holds captures with their sidecars; the fixtures beside the manifest if none is given.
 //! The environment variable SEED repeats a run of the generated packets.
@@ -13,6 +13,7 @@ mod ignored;
 mod json;
 mod library;
 mod oracle;
+mod statuses;
 mod writer;
 
 use std::env;
@@ -28,6 +29,7 @@ fn main() -> ExitCode {
     examples::run(&mut report);
     differential::run(seed, &captured, &mut report);
     ignored::run(seed, &mut report);
+    statuses::run(seed, &mut report);
     writer::run(seed, &mut report);
     report.finish()
 }

@@ -141,9 +141,8 @@ pub fn scenarios() -> Vec<Scenario> {
             },
         ),
         scenario("a reply of any status frees its place", EVERY, |word| {
-            (0..=6).fold(device(word), |play, status| {
+            (0..=255).fold(device(word), |play, status| {
                 play.guest(bulk(1, BULK_OUT, 6), 0)
-                    .host(bulk(1, BULK_OUT, 6).but(1, 7), 24)
                     .host(bulk(1, BULK_OUT, 6).but(1, status), 0)
                     .guest(get_config(1), 0)
                     .host(config_status(1, status, 1), 0)

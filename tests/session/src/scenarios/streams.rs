@@ -71,7 +71,7 @@ pub fn scenarios() -> Vec<Scenario> {
             WITH_RECEIVING,
             |word| {
                 for_each_flow(word, |play, flow| {
-                    (1..=6).fold(play, |play, status| {
+                    (1..=255).fold(play, |play, status| {
                         play.guest((flow.start)(1, flow.endpoint), 0)
                             .host((flow.data)(0, flow.endpoint), 0)
                             .host((flow.status)(1, status, flow.endpoint), 0)
@@ -85,7 +85,7 @@ pub fn scenarios() -> Vec<Scenario> {
             WITH_RECEIVING,
             |word| {
                 for_each_flow(word, |play, flow| {
-                    (0..=6).fold(play, |play, status| {
+                    (0..=255).fold(play, |play, status| {
                         play.guest((flow.start)(1, flow.endpoint), 0)
                             .host((flow.status)(1, 0, flow.endpoint), 0)
                             .guest((flow.start)(1, flow.other), 0)
@@ -278,7 +278,8 @@ pub fn scenarios() -> Vec<Scenario> {
             WITH_RECEIVING,
             |word| {
                 for_each_flow(word, |play, flow| {
-                    let statuses = [0, 1, 2, 3, 5, 6].map(|s| (flow.status)(0, s, flow.endpoint));
+                    let statuses = (0..=255).filter(|status| *status != 4);
+                    let statuses = statuses.map(|s| (flow.status)(0, s, flow.endpoint));
                     let ids = [1, 4, 0xffff_ffff].map(|id| (flow.status)(id, 4, flow.endpoint));
                     play.guest((flow.start)(5, flow.endpoint), 0)
                         .each_host(statuses, 33)

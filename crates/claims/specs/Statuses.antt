@@ -1,6 +1,6 @@
--- C-12 of a session, by kind numbers: "every status byte is allowed, 0 is success and everything else an error". A reply with an error frees the
--- place of its own request and no other (`ErrorFrees`). "Unsolicited statuses are still those with status 4; another one that matches nothing
--- stays 33." (`StallAlone`).
+-- C-12 of a session, by kind numbers: "every status byte is allowed, 0 is success and everything else an error". The judge tells statuses apart by
+-- success and stall alone (`ToldApart`). A reply with an error frees the place of its own request and no other (`ErrorFrees`). "Unsolicited
+-- statuses are still those with status 4; another one that matches nothing stays 33." (`StallAlone`).
 -- Assumes nothing: these are definitions and statements.
 use Prim.Native.Nat.{ℕ, _<_}
 use mathlib.Core.Bool.{true, false, cond, _&&_}
@@ -13,12 +13,21 @@ use Rattle.device.specs.Device.{rowAt}
 use Rattle.requests.specs.Requests.{placeAt, freePlace, idsDiffer}
 use Rattle.kinds.specs.Content.{Content}
 use Rattle.kinds.specs.Number.{wireNumber}
+use Rattle.kinds.specs.AnyStatus.{withStatus}
 use Rattle.events.specs.Event.{eventOf}
 use Rattle.session.specs.declared.Session.{Session}
 use Rattle.session.specs.Session.{linkOf}
 use Rattle.session.specs.Step.{judged}
 use Rattle.claims.specs.Allowed.{among, isReply, inwardOf, AnsweredBy, Unsolicited, succeeded, stalled}
 use Rattle.claims.specs.Movements.{reportsOn}
+
+-- ---- "Every test for success or stall reads the mended definition."
+
+-- two statuses of which both or neither is 0, and both or neither is 4, get the same number and leave the same session (`told-apart`)
+abbrev pub ToldApart : Type 0
+ToldApart =
+    (s : Session) (from : Side) (p : Content) (x y : ℕ) → eqb x 0 ≡ eqb y 0 → eqb x 4 ≡ eqb y 4
+    → judged s (eventOf from (withStatus x p)) ≡ judged s (eventOf from (withStatus y p))
 
 -- ---- an error
 
@@ -35,7 +44,8 @@ pub record Errs (s : Session) (p : Content) (next : Session) : Type 0 where
   -- no stream opens; that of which a 14, 17 or 27 speaks closes, and no other moves
   pub streams : (r : ℕ) → r < 32 → rowAt (next .rows) r .streaming ≡ cond (reportsOn s p r) false (rowAt (s .rows) r .streaming)
 
--- of a reply that came out of the wire checks, passes, and has any status but 0
+-- of a reply that came out of the wire checks, passes, and has any status but 0, to a session whose live requests have different ids (43 refuses
+-- others); what becomes of the device and of the watch is `Moved` and `WatchMoved`
 abbrev pub ErrorFrees : Type 0
 ErrorFrees =
     (s : Session) (from : Side) (p : Content) → wireNumber (linkOf from s) p ≡ 0 → isReply from (p .kind) (inwardOf p) ≡ true

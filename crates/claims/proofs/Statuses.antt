@@ -1,8 +1,9 @@
--- A reply with an error frees its own place (`error-frees`), and what answers no request passes as a stall alone (`stall-alone`).
--- The first is what `reply-consumes` and `moves` leave where the status is not 0. The second reads the number off `checksBy` (`number-by`): of a
--- 14, 17 or 27 no check asks but 25, 33 and 34.
+-- The judge tells statuses apart by success and stall alone (`told-apart`): the event of a packet with another status differs in that alone
+-- (`event-is`), and the checks and the change ask of it nothing else (`number-same`, `change-same`).
+-- A reply with an error frees its own place (`error-frees`): that is what `reply-consumes` and `moves` leave where the status is not 0.
+-- A status that answers no request passes as a stall (`stall-alone`): by `number-by` no check asks of a 14, 17 or 27 but 25, 33 and 34.
 -- Assumes nothing.
-use Prim.Native.Nat.{ℕ, _<_}
+use Prim.Native.Nat.{ℕ}
 use mathlib.Core.Bool.{Bool, true, false, cond, not, _&&_, _||_, false≢true}
 use mathlib.Core.List.{List, [], _∷_}
 use mathlib.Core.Option.{Option, none, some}
@@ -11,24 +12,133 @@ use mathlib.Core.Logic.{_⊎_, inl, inr}
 use lib.Dec.{eqb}
 use borrow.Author.Tests.{eqb-true}
 use borrow.Table.Steps.{cases}
+use Rattle.endpoint.specs.Endpoint.{isIn}
 use Rattle.header.specs.declared.Side.{Side}
 use Rattle.header.specs.declared.Side.the-variants.{Guest, Host}
 use Rattle.device.specs.Device.{RowState, rowAt}
 use Rattle.requests.specs.Requests.{placeAt, freePlace}
 use Rattle.kinds.specs.Content.{Value, Content, packetOf}
-use Rattle.events.specs.Event.{field, eventOf}
-use Rattle.checks.specs.Checks.{firstOf}
+use Rattle.kinds.specs.Codec.{layout}
+use Rattle.kinds.specs.AnyStatus.{withStatus}
+use Rattle.kinds.proofs.AnyStatus.{Kept, kept, stated, status-is, table-kept}
+use Rattle.events.specs.declared.Typed.the-variants.{OfEndpoint, OfMask}
+use Rattle.events.specs.Meaning.{Class, Hello, Connect, Interfaces, Endpoints, Disconnect, Reset, Ack, Cancel, Filter, StartRequest, PlainRequest, StreamStatus, PlainReply, StreamOut, StreamIn, About, nothing, endpoint, interface, mask, Meaning, meanings, lookUp}
+use Rattle.events.specs.Event.{Event, field, meaningOf, targetOf, isTargeted, typedOf, wordOf, announcedIn, rowsTold, eventBy, eventOf}
+use Rattle.checks.specs.Checks.{Match, Unmatched, Matched, matchOf, numberFor, firstOf}
+use Rattle.checks.specs.declared.Change.the-variants as changes
+use Rattle.checks.specs.Change.{moveOf, scopeOf, placeIn, changeBy}
 use Rattle.session.specs.declared.Session.{Session}
-use Rattle.session.specs.Step.{judged}
-use Rattle.claims.specs.Allowed.{among, isReply, inwardOf, AnsweredBy, Unsolicited, succeeded, stalled}
+use Rattle.session.specs.Step.{applied, nextFor, judged}
+use Rattle.claims.specs.Allowed.{among, isReply, inwardOf, Unsolicited, succeeded, stalled}
 use Rattle.claims.specs.NumberByKind.{answeredAt, checksBy}
 use Rattle.claims.specs.Exchange.{EndsWith, Consumes}
 use Rattle.claims.specs.Movements.{tableType, names, answeredKind, streamType, startKind, reportsOn, streamAfter}
-use Rattle.claims.specs.Outcomes.{FreesOwn, ErrorFrees, StallAlone}
+use Rattle.claims.specs.Statuses.{ToldApart, FreesOwn, ErrorFrees, StallAlone}
 use Rattle.claims.proofs.Allowed.{found}
 use Rattle.claims.proofs.NumberByKind.{number-by}
 use Rattle.claims.proofs.Exchange.{reply-consumes}
 use Rattle.claims.proofs.Movements.{moves}
+
+-- ---- another status
+
+-- an event with this status
+abbrev restated : ℕ → Event → Event
+restated x e = record { sender = e .sender; class = e .class; request = e .request; answers = e .answers; typed = e .typed; status = x; word = e .word; rows = e .rows }
+
+module _ (s : Session) (e : Event) (x y : ℕ) (zero : eqb x 0 ≡ eqb y 0) (four : eqb x 4 ≡ eqb y 4) where
+  number-same : (m : Match) → numberFor (s .head) (s .rows) (s .requests) (restated x e) m ≡ numberFor (s .head) (s .rows) (s .requests) (restated y e) m
+  unfolding numberFor
+  number-same Unmatched = rw four
+  number-same (Matched i q) = rw four
+
+  move-same : (m : Match) → moveOf (restated x e) m ≡ moveOf (restated y e) m
+  move-same Unmatched = rw (four, zero)
+  move-same (Matched i q) = rw (four, zero)
+
+  scope-same : (m : Match) → scopeOf (restated x e) m ≡ scopeOf (restated y e) m
+  scope-same Unmatched = refl
+  scope-same (Matched i q) = rw zero
+
+  change-same : (c : Class) (m : Match) → changeBy c (s .requests) (restated x e) m ≡ changeBy c (s .requests) (restated y e) m
+  change-same Hello m = refl
+  change-same Connect m = refl
+  change-same Interfaces m = refl
+  change-same Endpoints m = refl
+  change-same Disconnect m = refl
+  change-same Reset m = refl
+  change-same Ack m = refl
+  change-same Cancel m = refl
+  change-same Filter m = refl
+  change-same StartRequest m = refl
+  change-same PlainRequest m = refl
+  change-same StreamStatus m = λ i. changes.Release (placeIn m) (e .typed) (move-same m i) (scope-same m i)
+  change-same PlainReply m = λ i. changes.Release (placeIn m) (e .typed) (move-same m i) (scope-same m i)
+  change-same StreamOut m = refl
+  change-same StreamIn m = refl
+
+  judged-same : judged s (restated x e) ≡ judged s (restated y e)
+  unfolding judged nextFor matchOf
+  judged-same =
+      let m : Match = matchOf (s .requests) e in
+      λ i. cond (eqb (number-same m i) 0)
+      (record { session = applied s (e .sender) (change-same (e .class) m i) (e .rows); number = 0 })
+      (record { session = s; number = number-same m i })
+
+module _ (from : Side) (p : Content) (x : ℕ) where
+  abbrev q : Content
+  q = withStatus x p
+
+  k : Kept (layout (p .kind)) (p .fields) (q .fields)
+  k = kept p x
+
+  target-same : (a : About) → targetOf a q ≡ targetOf a p
+  target-same nothing = refl
+  target-same endpoint = k .endpoint
+  target-same interface = k .interface
+  target-same mask = refl
+
+  typed-same : (o : Option ℕ) (a : About) → typedOf o a q ≡ typedOf o a p
+  typed-same none a = refl
+  typed-same (some ty) nothing = refl
+  typed-same (some ty) endpoint = ap (λ (b : ℕ). OfEndpoint (record { 0 = b }) ty) (k .endpoint)
+  typed-same (some ty) interface = refl
+  typed-same (some ty) mask = ap (λ (b : ℕ). OfMask b ty) (k .mask)
+
+  -- only an endpoint table announces rows, and it has no status
+  rows-same : rowsTold q ≡ rowsTold p
+  rows-same = cases (eqb (p .kind) 5) (λ t. rw (t, eqb-true (p .kind) 5 t) (ap (announcedIn (layout 5)) (table-kept x (p .fields)))) (λ t. rw t)
+
+  meaning-same : meaningOf from q ≡ meaningOf from p
+  unfolding meaningOf
+  meaning-same = ap (λ (b : ℕ). lookUp meanings from (p .kind) (isIn (record { 0 = b }))) (k .endpoint)
+
+  event-is : eventOf from q ≡ restated (cond (stated (layout (p .kind)) (p .fields)) x 0) (eventOf from p)
+  unfolding eventOf
+  event-is =
+      ap (λ (m : Meaning). eventBy m from q) meaning-same
+      ∙ (λ i.
+      record {
+        sender = from;
+        class = meaningOf from p .class;
+        request = record { id = p .id; kind = p .kind; target = target-same (meaningOf from p .about) i; length = k .length i };
+        answers = record { first = meaningOf from p .first; second = meaningOf from p .second; targeted = isTargeted (meaningOf from p .about) };
+        typed = typed-same (meaningOf from p .wants) (meaningOf from p .about) i;
+        status = status-is x (layout (p .kind)) (p .fields) i;
+        word = wordOf p;
+        rows = rows-same i;
+      })
+
+pub told-apart : ToldApart
+told-apart s from p x y zero four =
+    ap (judged s) (event-is from p x)
+    ∙ judged-same s (eventOf from p) (cond there x 0) (cond there y 0) (same 0 zero) (same 4 four)
+    ∙ sym (ap (judged s) (event-is from p y))
+  where
+    there : Bool
+    there = stated (layout (p .kind)) (p .fields)
+
+    same : (n : ℕ) → eqb x n ≡ eqb y n → eqb (cond (stated (layout (p .kind)) (p .fields)) x 0) n ≡ eqb (cond (stated (layout (p .kind)) (p .fields)) y 0) n
+    same n h = cases (stated (layout (p .kind)) (p .fields)) (λ t. rw t h) (λ t. rw t)
 
 -- ---- an error
 

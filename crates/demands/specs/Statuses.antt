@@ -1,8 +1,8 @@
 -- C-12 of the gate's calls: "every status byte is allowed, 0 is success and everything else an error". No status decides a wire check, of the
--- reader (`any-status-read`) or of the writer (`any-status-put`); a reply with an error frees the place of its own request (`error-in-gate`); what
--- answers no request passes as a stall alone (`stall-in-gate`).
--- Assumes nothing: these are the statements that `proofs/Outcomes.antt` proves.
-use Prim.Native.Nat.{ℕ}
+-- reader (`any-status-read`) or of the writer (`any-status-put`); a reply to a request that waits passes whatever its status (`answer-in-gate`), and
+-- with an error it frees the place of that request (`error-in-gate`); a 14, 17 or 27 that answers none passes as a stall (`stall-in-gate`).
+-- Assumes nothing: these are the statements that `proofs/Statuses.antt` proves.
+use Prim.Native.Nat.{ℕ, _≤_}
 use mathlib.Core.Bool.{true, false, cond, _&&_}
 use mathlib.Core.List.{List, [], _∷_}
 use mathlib.Core.Path.{_≡_}
@@ -13,12 +13,13 @@ use Rattle.kinds.specs.Number.{wireNumber}
 use Rattle.kinds.specs.Formed.{Formed}
 use Rattle.kinds.specs.Codec.{orNext}
 use Rattle.kinds.specs.AnyStatus.{withStatus}
+use Rattle.requests.specs.Requests.{placeAt}
 use Rattle.checks.specs.Checks.{firstOf}
 use Rattle.session.specs.declared.Session.{Session}
 use Rattle.session.specs.Session.{linkOf}
-use Rattle.claims.specs.Allowed.{among, isReply, inwardOf, AnsweredBy, succeeded, stalled}
+use Rattle.claims.specs.Allowed.{among, isReply, inwardOf, countOf, AnsweredBy, succeeded, stalled}
 use Rattle.claims.specs.NumberByKind.{checksBy}
-use Rattle.claims.specs.Outcomes.{Errs}
+use Rattle.claims.specs.Statuses.{Errs}
 use Rattle.gate.specs.Verdict.{heldAs}
 use Rattle.gate.specs.Offer.{offerOf}
 use Rattle.gate.specs.Write.{writeBy}
@@ -33,6 +34,13 @@ AnyStatusRead = (from : Side) (s : Session) (hold piece : List ℕ) (x : ℕ) �
 -- A packet is written, or refused by the same number, whatever its status.
 abbrev pub AnyStatusPut : Type 0
 AnyStatusPut = (from : Side) (s : Session) (p : Content) (x room : ℕ) → writeBy from s (withStatus x p) room ≡ writeBy from s p room
+
+-- With a device, a reply that is formed, answers a request that waits, and is no longer than that asked for passes: its status is not looked at.
+abbrev pub AnswerInGate : Type 0
+AnswerInGate = (from : Side) (s : Session) (hold piece : List ℕ) → Arrives from s hold piece → Formed (linkOf from s) (packetIn from s hold piece)
+    → isReply from (packetIn from s hold piece .kind) (inwardOf (packetIn from s hold piece)) ≡ true → s .head .present ≡ true
+    → (i : ℕ) → AnsweredBy (s .requests) (packetIn from s hold piece) i → countOf (packetIn from s hold piece) ≤ placeAt (s .requests) i .request .length
+    → offerOf from s hold piece .number ≡ 0
 
 -- A reply that passes with any status but 0: what becomes of places and streams in the session that the call gives back.
 abbrev pub ErrorInGate : Type 0
