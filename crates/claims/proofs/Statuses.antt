@@ -1,5 +1,5 @@
--- The judge tells statuses apart by success and stall alone (`told-apart`): the event of a packet with another status differs in that alone
--- (`event-is`), and the checks and the change ask of it nothing else (`number-same`, `change-same`).
+-- The judge tells statuses apart by success and stall alone (`told-apart`), and those of replies alone (`status-unread`): the event of a packet
+-- with another status differs in that alone (`event-is`), and number and change ask of it nothing else (`alike`, `unread`).
 -- A reply with an error frees its own place (`error-frees`): that is what `reply-consumes` and `moves` leave where the status is not 0.
 -- A status that answers no request passes as a stall (`stall-alone`): by `number-by` no check asks of a 14, 17 or 27 but 25, 33 and 34.
 -- Assumes nothing.
@@ -20,20 +20,24 @@ use Rattle.requests.specs.Requests.{placeAt, freePlace}
 use Rattle.kinds.specs.Content.{Value, Content, packetOf}
 use Rattle.kinds.specs.Codec.{layout}
 use Rattle.kinds.specs.AnyStatus.{withStatus}
+use Rattle.kinds.proofs.RoundTrip.{clean}
 use Rattle.kinds.proofs.AnyStatus.{Kept, kept, stated, status-is, table-kept}
 use Rattle.events.specs.declared.Typed.the-variants.{OfEndpoint, OfMask}
 use Rattle.events.specs.Meaning.{Class, Hello, Connect, Interfaces, Endpoints, Disconnect, Reset, Ack, Cancel, Filter, StartRequest, PlainRequest, StreamStatus, PlainReply, StreamOut, StreamIn, About, nothing, endpoint, interface, mask, Meaning, meanings, lookUp}
 use Rattle.events.specs.Event.{Event, field, meaningOf, targetOf, isTargeted, typedOf, wordOf, announcedIn, rowsTold, eventBy, eventOf}
-use Rattle.checks.specs.Checks.{Match, Unmatched, Matched, matchOf, numberFor, firstOf}
+use Rattle.checks.specs.Checks.{traitsOf, Match, Unmatched, Matched, matchOf, numberFor, firstOf}
+use Rattle.checks.specs.declared.Change.{Change}
 use Rattle.checks.specs.declared.Change.the-variants as changes
 use Rattle.checks.specs.Change.{moveOf, scopeOf, placeIn, changeBy}
 use Rattle.session.specs.declared.Session.{Session}
+use Rattle.session.specs.Session.{linkOf}
 use Rattle.session.specs.Step.{applied, nextFor, judged}
 use Rattle.claims.specs.Allowed.{among, isReply, inwardOf, Unsolicited, succeeded, stalled}
 use Rattle.claims.specs.NumberByKind.{answeredAt, checksBy}
 use Rattle.claims.specs.Exchange.{EndsWith, Consumes}
 use Rattle.claims.specs.Movements.{tableType, names, answeredKind, streamType, startKind, reportsOn, streamAfter}
-use Rattle.claims.specs.Statuses.{ToldApart, FreesOwn, ErrorFrees, StallAlone}
+use Rattle.claims.specs.Statuses.{ToldApart, StatusUnread, FreesOwn, ErrorFrees, StallAlone}
+use Rattle.claims.proofs.Grounds.{agrees}
 use Rattle.claims.proofs.Allowed.{found}
 use Rattle.claims.proofs.NumberByKind.{number-by}
 use Rattle.claims.proofs.Exchange.{reply-consumes}
@@ -45,44 +49,60 @@ use Rattle.claims.proofs.Movements.{moves}
 abbrev restated : ℕ → Event → Event
 restated x e = record { sender = e .sender; class = e .class; request = e .request; answers = e .answers; typed = e .typed; status = x; word = e .word; rows = e .rows }
 
-module _ (s : Session) (e : Event) (x y : ℕ) (zero : eqb x 0 ≡ eqb y 0) (four : eqb x 4 ≡ eqb y 4) where
-  number-same : (m : Match) → numberFor (s .head) (s .rows) (s .requests) (restated x e) m ≡ numberFor (s .head) (s .rows) (s .requests) (restated y e) m
-  unfolding numberFor
-  number-same Unmatched = rw four
-  number-same (Matched i q) = rw four
+module _ (s : Session) (e : Event) (x y : ℕ) where
+  abbrev numberAs : ℕ → Match → ℕ
+  numberAs z m = numberFor (s .head) (s .rows) (s .requests) (restated z e) m
 
-  move-same : (m : Match) → moveOf (restated x e) m ≡ moveOf (restated y e) m
-  move-same Unmatched = rw (four, zero)
-  move-same (Matched i q) = rw (four, zero)
+  abbrev changeAs : ℕ → Class → Match → Change
+  changeAs z c m = changeBy c (s .requests) (restated z e) m
 
-  scope-same : (m : Match) → scopeOf (restated x e) m ≡ scopeOf (restated y e) m
-  scope-same Unmatched = refl
-  scope-same (Matched i q) = rw zero
+  -- only a reply's change asks for a status
+  change-same : (c : Class) (m : Match) → (traitsOf c .reply ≡ true → (moveOf (restated x e) m ≡ moveOf (restated y e) m) × (scopeOf (restated x e) m ≡ scopeOf (restated y e) m))
+      → changeAs x c m ≡ changeAs y c m
+  change-same Hello m h = refl
+  change-same Connect m h = refl
+  change-same Interfaces m h = refl
+  change-same Endpoints m h = refl
+  change-same Disconnect m h = refl
+  change-same Reset m h = refl
+  change-same Ack m h = refl
+  change-same Cancel m h = refl
+  change-same Filter m h = refl
+  change-same StartRequest m h = refl
+  change-same PlainRequest m h = refl
+  change-same StreamStatus m h = λ i. changes.Release (placeIn m) (e .typed) (h refl .0 i) (h refl .1 i)
+  change-same PlainReply m h = λ i. changes.Release (placeIn m) (e .typed) (h refl .0 i) (h refl .1 i)
+  change-same StreamOut m h = refl
+  change-same StreamIn m h = refl
 
-  change-same : (c : Class) (m : Match) → changeBy c (s .requests) (restated x e) m ≡ changeBy c (s .requests) (restated y e) m
-  change-same Hello m = refl
-  change-same Connect m = refl
-  change-same Interfaces m = refl
-  change-same Endpoints m = refl
-  change-same Disconnect m = refl
-  change-same Reset m = refl
-  change-same Ack m = refl
-  change-same Cancel m = refl
-  change-same Filter m = refl
-  change-same StartRequest m = refl
-  change-same PlainRequest m = refl
-  change-same StreamStatus m = λ i. changes.Release (placeIn m) (e .typed) (move-same m i) (scope-same m i)
-  change-same PlainReply m = λ i. changes.Release (placeIn m) (e .typed) (move-same m i) (scope-same m i)
-  change-same StreamOut m = refl
-  change-same StreamIn m = refl
-
-  judged-same : judged s (restated x e) ≡ judged s (restated y e)
+  -- the match does not depend on the status; with number and change the answer is the same
+  judged-same : numberAs x (matchOf (s .requests) e) ≡ numberAs y (matchOf (s .requests) e) → changeAs x (e .class) (matchOf (s .requests) e) ≡ changeAs y (e .class) (matchOf (s .requests) e)
+      → judged s (restated x e) ≡ judged s (restated y e)
   unfolding judged nextFor matchOf
-  judged-same =
-      let m : Match = matchOf (s .requests) e in
-      λ i. cond (eqb (number-same m i) 0)
-      (record { session = applied s (e .sender) (change-same (e .class) m i) (e .rows); number = 0 })
-      (record { session = s; number = number-same m i })
+  judged-same n c = λ i. cond (eqb (n i) 0) (record { session = applied s (e .sender) (c i) (e .rows); number = 0 }) (record { session = s; number = n i })
+
+  -- two statuses that are both or neither 0, and both or neither 4
+  module _ (zero : eqb x 0 ≡ eqb y 0) (four : eqb x 4 ≡ eqb y 4) where
+    number-same : (m : Match) → numberAs x m ≡ numberAs y m
+    unfolding numberFor
+    number-same Unmatched = rw four
+    number-same (Matched i q) = rw four
+
+    move-same : (m : Match) → moveOf (restated x e) m ≡ moveOf (restated y e) m
+    move-same Unmatched = rw (four, zero)
+    move-same (Matched i q) = rw (four, zero)
+
+    scope-same : (m : Match) → scopeOf (restated x e) m ≡ scopeOf (restated y e) m
+    scope-same Unmatched = refl
+    scope-same (Matched i q) = rw zero
+
+    alike : judged s (restated x e) ≡ judged s (restated y e)
+    alike = let m : Match = matchOf (s .requests) e in judged-same (number-same m) (change-same (e .class) m (λ r. (move-same m, scope-same m)))
+
+  -- what is no reply matches nothing, and 33 does not ask of it
+  unread : traitsOf (e .class) .reply ≡ false → judged s (restated x e) ≡ judged s (restated y e)
+  unfolding matchOf numberFor
+  unread r = judged-same (rw r) (change-same (e .class) _ (λ t. absurd (false≢true (sym r ∙ t))))
 
 module _ (from : Side) (p : Content) (x : ℕ) where
   abbrev q : Content
@@ -131,7 +151,7 @@ module _ (from : Side) (p : Content) (x : ℕ) where
 pub told-apart : ToldApart
 told-apart s from p x y zero four =
     ap (judged s) (event-is from p x)
-    ∙ judged-same s (eventOf from p) (cond there x 0) (cond there y 0) (same 0 zero) (same 4 four)
+    ∙ alike s (eventOf from p) (cond there x 0) (cond there y 0) (same 0 zero) (same 4 four)
     ∙ sym (ap (judged s) (event-is from p y))
   where
     there : Bool
@@ -139,6 +159,13 @@ told-apart s from p x y zero four =
 
     same : (n : ℕ) → eqb x n ≡ eqb y n → eqb (cond (stated (layout (p .kind)) (p .fields)) x 0) n ≡ eqb (cond (stated (layout (p .kind)) (p .fields)) y 0) n
     same n h = cases (stated (layout (p .kind)) (p .fields)) (λ t. rw t h) (λ t. rw t)
+
+pub status-unread : StatusUnread
+status-unread s from p x w r =
+    let c = clean (linkOf from s) p w in
+    let e : Event = eventOf from p in
+    ap (judged s) (event-is from p x)
+    ∙ unread s e (cond (stated (layout (p .kind)) (p .fields)) x 0) (e .status) ((λ i. agrees from p (c .kind) (c .found) (c .sender) i .reply) ∙ r)
 
 -- ---- an error
 

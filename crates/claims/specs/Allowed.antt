@@ -1,5 +1,6 @@
 -- When a packet passes the session checks: in relations over the session and what the packet says, by kind numbers and in the words of
 -- document 01. It does not go by the classes of `events` nor run the checks; `AllowedExactly` says that the judge passes a packet exactly then.
+-- Shared with the definitions are the table of kinds and the look at a field by its name there (`named`), and what is seen of rows and places.
 -- Assumes nothing: these are definitions and a statement.
 use Prim.Native.Nat.{ℕ, _≤_, _<_}
 use Prim.Native.String.{String}

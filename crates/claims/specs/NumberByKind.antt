@@ -1,5 +1,5 @@
 -- The number of a packet, by kind numbers: the first of document 01's sentences that refuses it, in the order of their numbers but for 27 before
--- 26. `NumberBy` says that the judge gives this number.
+-- 26. `NumberBy` says that the judge gives this number. Some tests of head, rows and table are those of `checks`; `Allowed.antt` has them in words.
 -- Assumes nothing: these are definitions and a statement.
 use Prim.Native.Nat.{ℕ}
 use mathlib.Core.Bool.{Bool, false, cond, not, _&&_, _||_}

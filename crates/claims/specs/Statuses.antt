@@ -1,6 +1,6 @@
 -- C-12 of a session, by kind numbers: "every status byte is allowed, 0 is success and everything else an error". The judge tells statuses apart by
--- success and stall alone (`ToldApart`). A reply with an error frees the place of its own request and no other (`ErrorFrees`). "Unsolicited
--- statuses are still those with status 4; another one that matches nothing stays 33." (`StallAlone`).
+-- success and stall alone (`ToldApart`), and those of replies alone (`StatusUnread`). A reply with an error frees the place of its own request and
+-- no other (`ErrorFrees`). "Unsolicited statuses are still those with status 4; another one that matches nothing stays 33." (`StallAlone`).
 -- Assumes nothing: these are definitions and statements.
 use Prim.Native.Nat.{ℕ, _<_}
 use mathlib.Core.Bool.{true, false, cond, _&&_}
@@ -23,11 +23,18 @@ use Rattle.claims.specs.Movements.{reportsOn}
 
 -- ---- "Every test for success or stall reads the mended definition."
 
--- two statuses of which both or neither is 0, and both or neither is 4, get the same number and leave the same session (`told-apart`)
+-- with two statuses of which both or neither is 0, and both or neither is 4, a packet gets the same number and leaves the same session
+-- (`told-apart`)
 abbrev pub ToldApart : Type 0
 ToldApart =
     (s : Session) (from : Side) (p : Content) (x y : ℕ) → eqb x 0 ≡ eqb y 0 → eqb x 4 ≡ eqb y 4
     → judged s (eventOf from (withStatus x p)) ≡ judged s (eventOf from (withStatus y p))
+
+-- the status of a packet that is no reply is not looked at: of a guest's, and of data on a stream (`status-unread`)
+abbrev pub StatusUnread : Type 0
+StatusUnread =
+    (s : Session) (from : Side) (p : Content) (x : ℕ) → wireNumber (linkOf from s) p ≡ 0 → isReply from (p .kind) (inwardOf p) ≡ false
+    → judged s (eventOf from (withStatus x p)) ≡ judged s (eventOf from p)
 
 -- ---- an error
 

@@ -1,6 +1,7 @@
 -- C-12 of the gate's calls: "every status byte is allowed, 0 is success and everything else an error". No status decides a wire check, of the
 -- reader (`any-status-read`) or of the writer (`any-status-put`); a reply to a request that waits passes whatever its status (`answer-in-gate`), and
--- with an error it frees the place of that request (`error-in-gate`); a 14, 17 or 27 that answers none passes as a stall (`stall-in-gate`).
+-- with an error it frees the place of that request (`error-in-gate`); a 14, 17 or 27 that answers none passes exactly as a stall with id 0
+-- (`stall-in-gate`).
 -- Assumes nothing: these are the statements that `proofs/Statuses.antt` proves.
 use Prim.Native.Nat.{ℕ, _≤_}
 use mathlib.Core.Bool.{true, false, cond, _&&_}
@@ -35,7 +36,7 @@ AnyStatusRead = (from : Side) (s : Session) (hold piece : List ℕ) (x : ℕ) �
 abbrev pub AnyStatusPut : Type 0
 AnyStatusPut = (from : Side) (s : Session) (p : Content) (x room : ℕ) → writeBy from s (withStatus x p) room ≡ writeBy from s p room
 
--- With a device, a reply that is formed, answers a request that waits, and is no longer than that asked for passes: its status is not looked at.
+-- With a device, a reply passes that is formed, answers a request that waits and is no longer than it asked for, whatever its status.
 abbrev pub AnswerInGate : Type 0
 AnswerInGate = (from : Side) (s : Session) (hold piece : List ℕ) → Arrives from s hold piece → Formed (linkOf from s) (packetIn from s hold piece)
     → isReply from (packetIn from s hold piece .kind) (inwardOf (packetIn from s hold piece)) ≡ true → s .head .present ≡ true

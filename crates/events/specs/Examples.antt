@@ -11,7 +11,7 @@ use Rattle.octets.specs.Little.{le}
 use Rattle.header.specs.declared.Side.{Side}
 use Rattle.header.specs.declared.Side.the-variants.{Guest, Host}
 use Rattle.kinds.specs.Table.{words, Kind, kinds}
-use Rattle.kinds.specs.Content.{one, Content, packetOf}
+use Rattle.kinds.specs.Content.{Value, one, Content, packetOf}
 use Rattle.kinds.specs.Codec.{layout}
 use Rattle.kinds.specs.Slots.{from}
 use Rattle.kinds.specs.Number.{sends, tailOk, isNone}
@@ -204,18 +204,18 @@ picked p (x ∷ xs) = cond (p x) (x ∷ picked p xs) (picked p xs)
 pub success-and-stall : (picked isSuccess (from 256 0) ≡ (0 ∷ [])) × (picked isStall (from 256 0) ≡ (4 ∷ []))
 success-and-stall = (refl, refl)
 
--- and the status that is asked is the one that was sent, in every kind that has one
-pub status-as-sent : (id x a b c d e f : ℕ) (s : List ℕ)
-    → (field "status" (packetOf 8 id (one x ∷ one a ∷ []) s) ≡ x)
-    × (field "status" (packetOf 11 id (one x ∷ one a ∷ one b ∷ []) s) ≡ x)
-    × (field "status" (packetOf 14 id (one x ∷ one a ∷ []) s) ≡ x)
-    × (field "status" (packetOf 17 id (one x ∷ one a ∷ []) s) ≡ x)
-    × (field "status" (packetOf 20 id (one a ∷ one b ∷ one x ∷ []) s) ≡ x)
-    × (field "status" (packetOf 27 id (one a ∷ one b ∷ one x ∷ []) s) ≡ x)
-    × (field "status" (packetOf 100 id (one a ∷ one b ∷ one c ∷ one x ∷ one d ∷ one e ∷ one f ∷ []) s) ≡ x)
-    × (field "status" (packetOf 101 id (one a ∷ one x ∷ one b ∷ one c ∷ one d ∷ []) s) ≡ x)
-    × (field "status" (packetOf 102 id (one a ∷ one x ∷ one b ∷ []) s) ≡ x)
-    × (field "status" (packetOf 103 id (one a ∷ one x ∷ one b ∷ []) s) ≡ x)
-    × (field "status" (packetOf 104 id (one a ∷ one b ∷ one c ∷ one x ∷ []) s) ≡ x)
+-- and the status that is asked is the one that was sent, in every kind that has one, whatever its other fields hold
+pub status-as-sent : (id x : ℕ) (a b c d e f : Value) (s : List ℕ)
+    → (field "status" (packetOf 8 id (one x ∷ a ∷ []) s) ≡ x)
+    × (field "status" (packetOf 11 id (one x ∷ a ∷ b ∷ []) s) ≡ x)
+    × (field "status" (packetOf 14 id (one x ∷ a ∷ []) s) ≡ x)
+    × (field "status" (packetOf 17 id (one x ∷ a ∷ []) s) ≡ x)
+    × (field "status" (packetOf 20 id (a ∷ b ∷ one x ∷ []) s) ≡ x)
+    × (field "status" (packetOf 27 id (a ∷ b ∷ one x ∷ []) s) ≡ x)
+    × (field "status" (packetOf 100 id (a ∷ b ∷ c ∷ one x ∷ d ∷ e ∷ f ∷ []) s) ≡ x)
+    × (field "status" (packetOf 101 id (a ∷ one x ∷ b ∷ c ∷ d ∷ []) s) ≡ x)
+    × (field "status" (packetOf 102 id (a ∷ one x ∷ b ∷ []) s) ≡ x)
+    × (field "status" (packetOf 103 id (a ∷ one x ∷ b ∷ []) s) ≡ x)
+    × (field "status" (packetOf 104 id (a ∷ b ∷ c ∷ one x ∷ []) s) ≡ x)
 unfolding layout kinds
 status-as-sent id x a b c d e f s = (refl, refl, refl, refl, refl, refl, refl, refl, refl, refl, refl)

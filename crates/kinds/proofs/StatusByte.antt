@@ -1,4 +1,5 @@
--- A body with another byte in the place of its status reads as the packet with that status (`status-byte`).
+-- A body with another byte in the place of its status reads as the packet with that status (`status-byte`); so it has the same number
+-- (`any-status-byte`).
 -- Of the table's lines: a status is one byte, is there whatever is shared, and no other follows (`found-single`). By induction over the fields:
 -- those before the status are read off bytes that stay (`value-before`), the status is the byte that was put there (`put-byte`), and those behind
 -- it are read off what follows, none of them replaced (`none-replaced`). What follows the fields stays, as the status stands before it (`within`).
@@ -17,12 +18,14 @@ use lib.Text.{eqt}
 use borrow.Author.Tests.{eqb-true, le-leb, not-true}
 use borrow.Table.Steps.{cases}
 use Rattle.octets.specs.Little.{le}
+use Rattle.header.specs.Link.{sharedSet}
 use Rattle.octets.proofs.Logic.{and-parts}
 use Rattle.kinds.specs.Table.{Bits, always, bit, bits, Field, Kind, kinds}
 use Rattle.kinds.specs.Content.{Value, shared, sizeOf, size, numbers, whole, split, find, fieldsOf}
+use Rattle.kinds.specs.Number.{wireNumber}
 use Rattle.kinds.specs.Codec.{layout, contentAt}
-use Rattle.kinds.proofs.AnyStatus.{none-replaced}
-use Rattle.kinds.specs.AnyStatus.{statusIn, hasStatus, statusAt, StatusByte}
+use Rattle.kinds.proofs.AnyStatus.{any-status, none-replaced}
+use Rattle.kinds.specs.AnyStatus.{statusIn, hasStatus, statusAt, StatusByte, AnyStatusByte}
 
 -- ---- of the table: a status is one byte that is always there, and no other follows
 
@@ -139,3 +142,6 @@ status-byte caps kind id body x h =
       fields = split-set caps (layout kind) body x a h i;
       rest = drop-set-lt (size (shared caps) (layout kind)) body at x (within caps (layout kind) a h) i;
     }
+
+pub any-status-byte : AnyStatusByte
+any-status-byte l kind id body x h = ap (wireNumber l) (status-byte (sharedSet l) kind id body x h) ∙ any-status l (contentAt (sharedSet l) kind id body) x

@@ -1,5 +1,6 @@
 -- C-12: "every status byte is allowed": a packet has the same number with any status (`any-status`), and so it has for the writer
--- (`any-status-written`). In the bytes, a packet with another status is a body with another byte in one place (`status-byte`).
+-- (`any-status-written`). In the bytes, a packet with another status is a body with another byte in one place (`status-byte`), so its number does
+-- not depend on that byte (`any-status-byte`).
 -- Assumes nothing: these are definitions, examples by computation, and the statements that `proofs/AnyStatus.antt` and
 -- `proofs/StatusByte.antt` prove.
 use Prim.Native.Nat.{ℕ, _+_}
@@ -10,6 +11,7 @@ use mathlib.Core.Path.{_≡_, refl}
 use lib.ListN.{length, replicate, set}
 use lib.Text.{eqt}
 use Rattle.header.specs.declared.Link.{Link}
+use Rattle.header.specs.Link.{sharedSet}
 use Rattle.kinds.specs.Table.{Bits, Field, Kind, kinds}
 use Rattle.kinds.specs.Content.{Value, one, Content, packetOf, shared, sizeOf}
 use Rattle.kinds.specs.Number.{wireNumber}
@@ -84,3 +86,8 @@ AnyStatusWritten = (l : Link) (p : Content) (x room : ℕ) → writeNumber l (wi
 abbrev pub StatusByte : Type 0
 StatusByte = (caps kind id : ℕ) (body : List ℕ) (x : ℕ) → hasStatus (layout kind) ≡ true
     → contentAt caps kind id (set body (statusAt (shared caps) (layout kind)) x) ≡ withStatus x (contentAt caps kind id body)
+
+-- so the number of a body that was read does not depend on its status byte
+abbrev pub AnyStatusByte : Type 0
+AnyStatusByte = (l : Link) (kind id : ℕ) (body : List ℕ) (x : ℕ) → hasStatus (layout kind) ≡ true
+    → wireNumber l (contentAt (sharedSet l) kind id (set body (statusAt (shared (sharedSet l)) (layout kind)) x)) ≡ wireNumber l (contentAt (sharedSet l) kind id body)

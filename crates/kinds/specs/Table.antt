@@ -17,7 +17,7 @@ pub data Bits : Type 0 where
 
 -- what a field's numbers have to be: document 01's "Field rules (24)"
 pub data Rule : Type 0 where
-  any : Rule  -- a status among them: C-12, "every status byte is allowed"
+  any : Rule  -- no rule; a status has this one: C-12, "every status byte is allowed"
   holding-zero : Rule  -- "A hello's version has a zero byte."
   speed : Rule  -- "Speed is 0 to 3 or 255."
   at-most-32 : Rule  -- "Interface count is at most 32."
