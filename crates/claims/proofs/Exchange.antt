@@ -77,7 +77,7 @@ module _ (s : Session) (from : Side) (p : Content) (w : wireNumber (linkOf from 
   abbrev e : Event
   e = eventOf from p
 
-  agreed : groundsOf e ≡ groundsBy from p
+  pub agreed : groundsOf e ≡ groundsBy from p
   agreed = let c = clean (linkOf from s) p w in agrees from p (c .kind) (c .found) (c .sender)
 
   keeps : isRequest from (p .kind) ≡ true → judged s e .number ≡ 0 → TakesPlace s p (judged s e .session)
@@ -88,10 +88,10 @@ module _ (s : Session) (from : Side) (p : Content) (w : wireNumber (linkOf from 
       record { place = t .place; within = t .within; free = t .free; lower = t .lower; holds = t .holds ∙ ap taken k; others = t .others }
 
   module _ (r : isReply from (p .kind) (inwardOf p) ≡ true) where
-    replying : traitsOf (e .class) .reply ≡ true
+    pub replying : traitsOf (e .class) .reply ≡ true
     replying = (λ i. agreed i .reply) ∙ r
 
-    from-a-host : isGuest (e .sender) ≡ false
+    pub from-a-host : isGuest (e .sender) ≡ false
     from-a-host = from-host (linkOf from s) p w replying
 
     -- of a reply no check asks but 25, 33 and 34
@@ -188,7 +188,7 @@ module _ (s : Session) (from : Side) (p : Content) (w : wireNumber (linkOf from 
     abbrev query : Query
     query = Answered (e .request) (e .answers)
 
-    match-at : (o : Option ℕ) → lowest (s .requests) query ≡ o → matchOf (s .requests) e ≡ matchIn (s .requests) o
+    pub match-at : (o : Option ℕ) → lowest (s .requests) query ≡ o → matchOf (s .requests) e ≡ matchIn (s .requests) o
     match-at o x = match-is s from p agreed r ∙ ap (matchIn (s .requests)) x
 
     -- nothing matches, and the reply passes: it is unsolicited

@@ -432,13 +432,17 @@ pub record LateEvent (s : Session) (e : Event) : Type 0 where
   -- in any case the requests are as before
   pub kept : afterEvent s e .requests ≡ s .requests
 
+-- the number of a host's reply that matches nothing
+pub unmatched-number : (s : Session) (e : Event) → traitsOf (e .class) .reply ≡ true → isGuest (e .sender) ≡ false → matchOf (s .requests) e ≡ Unmatched
+    → judged s e .number ≡ cond (not (s .head .present)) 25 (cond (not (isUnsolicited e)) 33 0)
+unfolding numberOf
+unmatched-number s e h g m = number-is s e ∙ ap (numberFor (s .head) (s .rows) (s .requests) e) m ∙ late-number (s .head) (s .rows) (s .requests) e h g
+
 -- a host's reply for which no request with its id is live
 pub late-reply : (s : Session) (e : Event) → traitsOf (e .class) .reply ≡ true → isGuest (e .sender) ≡ false → NoLive (s .requests) (e .request .id) → LateEvent s e
-unfolding numberOf
 late-reply s e h g n =
     let m : matchOf (s .requests) e ≡ Unmatched = no-match (s .requests) e n in
-    let w : judged s e .number ≡ cond (not (s .head .present)) 25 (cond (not (isUnsolicited e)) 33 0) =
-    number-is s e ∙ ap (numberFor (s .head) (s .rows) (s .requests) e) m ∙ late-number (s .head) (s .rows) (s .requests) e h g in
+    let w = unmatched-number s e h g m in
     record {
       unmatched = m;
       absent = λ a. w ∙ rw a;
@@ -454,21 +458,21 @@ abbrev unsent : Option Kind → Bool
 unsent none = true
 unsent (some k) = not (sends (k .sender) Guest)
 
--- none of these kinds
-abbrev allUnsent : List ℕ → Bool
-allUnsent [] = true
-allUnsent (n ∷ ns) = unsent (find n kinds) && allUnsent ns
+-- what holds of each of these numbers holds of one that is among them
+abbrev pub eachOf : (ℕ → Bool) → List ℕ → Bool
+eachOf P [] = true
+eachOf P (n ∷ ns) = P n && eachOf P ns
 
-unsent-among : (ns : List ℕ) (n : ℕ) → allUnsent ns ≡ true → among ns n ≡ true → unsent (find n kinds) ≡ true
-unsent-among [] n a h = absurd (false≢true h)
-unsent-among (k ∷ ns) n a h =
-    let b = and-parts (unsent (find k kinds)) (allUnsent ns) a in
-    cases (eqb n k) (λ t. rw (eqb-true n k t) (b .0)) (λ t. unsent-among ns n (b .1) (rw t at h))
+pub each-among : (P : ℕ → Bool) (ns : List ℕ) (n : ℕ) → eachOf P ns ≡ true → among ns n ≡ true → P n ≡ true
+each-among P [] n a h = absurd (false≢true h)
+each-among P (k ∷ ns) n a h =
+    let b = and-parts (P k) (eachOf P ns) a in
+    cases (eqb n k) (λ t. rw (eqb-true n k t) (b .0)) (λ t. each-among P ns n (b .1) (rw t at h))
 
 -- nor any kind that would be a guest's reply
 replies-unsent : (n : ℕ) (inward : Bool) → isReply Guest n inward ≡ true → unsent (find n kinds) ≡ true
 unfolding kinds
-replies-unsent n inward h = cases (among ns n) (λ a. unsent-among ns n refl a) (λ a. absurd (false≢true (rw a at h)))
+replies-unsent n inward h = cases (among ns n) (λ a. each-among (λ (k : ℕ). unsent (find k kinds)) ns n refl a) (λ a. absurd (false≢true (rw a at h)))
   where
     ns : List ℕ
     ns = 8 ∷ 11 ∷ 14 ∷ 17 ∷ 20 ∷ 27 ∷ []

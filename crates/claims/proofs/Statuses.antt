@@ -1,13 +1,14 @@
 -- The judge tells statuses apart by success and stall alone (`told-apart`), and those of replies alone (`status-unread`): the event of a packet
 -- with another status differs in that alone (`event-is`), and number and change ask of it nothing else (`alike`, `unread`).
 -- A reply with an error frees its own place (`error-frees`): that is what `reply-consumes` and `moves` leave where the status is not 0.
--- A status that answers no request passes as a stall (`stall-alone`): by `number-by` no check asks of a 14, 17 or 27 but 25, 33 and 34.
+-- A status that answers no request passes as a stall (`stall-alone`): of a reply that matches nothing no check asks but 25 and 33
+-- (`unmatched-number`).
 -- Assumes nothing.
 use Prim.Native.Nat.{ℕ}
 use mathlib.Core.Bool.{Bool, true, false, cond, not, _&&_, _||_, false≢true}
-use mathlib.Core.List.{List, [], _∷_}
+use mathlib.Core.List.{[], _∷_}
 use mathlib.Core.Option.{Option, none, some}
-use mathlib.Core.Path.{_≡_, refl, sym, ap, subst, _∙_}
+use mathlib.Core.Path.{_≡_, refl, sym, ap, _∙_}
 use mathlib.Core.Logic.{_⊎_, inl, inr}
 use lib.Dec.{eqb}
 use borrow.Author.Tests.{eqb-true}
@@ -17,7 +18,7 @@ use Rattle.header.specs.declared.Side.{Side}
 use Rattle.header.specs.declared.Side.the-variants.{Guest, Host}
 use Rattle.device.specs.Device.{RowState, rowAt}
 use Rattle.requests.specs.Requests.{placeAt, freePlace}
-use Rattle.kinds.specs.Content.{Value, Content, packetOf}
+use Rattle.kinds.specs.Content.{Content}
 use Rattle.kinds.specs.Codec.{layout}
 use Rattle.kinds.specs.AnyStatus.{withStatus}
 use Rattle.kinds.proofs.RoundTrip.{clean}
@@ -25,7 +26,7 @@ use Rattle.kinds.proofs.AnyStatus.{Kept, kept, stated, status-is, table-kept}
 use Rattle.events.specs.declared.Typed.the-variants.{OfEndpoint, OfMask}
 use Rattle.events.specs.Meaning.{Class, Hello, Connect, Interfaces, Endpoints, Disconnect, Reset, Ack, Cancel, Filter, StartRequest, PlainRequest, StreamStatus, PlainReply, StreamOut, StreamIn, About, nothing, endpoint, interface, mask, Meaning, meanings, lookUp}
 use Rattle.events.specs.Event.{Event, field, meaningOf, targetOf, isTargeted, typedOf, wordOf, announcedIn, rowsTold, eventBy, eventOf}
-use Rattle.checks.specs.Checks.{traitsOf, Match, Unmatched, Matched, matchOf, numberFor, firstOf}
+use Rattle.checks.specs.Checks.{traitsOf, Match, Unmatched, Matched, matchOf, numberFor}
 use Rattle.checks.specs.declared.Change.{Change}
 use Rattle.checks.specs.declared.Change.the-variants as changes
 use Rattle.checks.specs.Change.{moveOf, scopeOf, placeIn, changeBy}
@@ -33,14 +34,16 @@ use Rattle.session.specs.declared.Session.{Session}
 use Rattle.session.specs.Session.{linkOf}
 use Rattle.session.specs.Step.{applied, nextFor, judged}
 use Rattle.claims.specs.Allowed.{among, isReply, inwardOf, Unsolicited, succeeded, stalled}
-use Rattle.claims.specs.NumberByKind.{answeredAt, checksBy}
+use Rattle.claims.specs.NumberByKind.{answeredAt}
 use Rattle.claims.specs.Exchange.{EndsWith, Consumes}
 use Rattle.claims.specs.Movements.{tableType, names, answeredKind, streamType, startKind, reportsOn, streamAfter}
 use Rattle.claims.specs.Statuses.{ToldApart, StatusUnread, FreesOwn, ErrorFrees, StallAlone}
 use Rattle.claims.proofs.Grounds.{agrees}
 use Rattle.claims.proofs.Allowed.{found}
-use Rattle.claims.proofs.NumberByKind.{number-by}
-use Rattle.claims.proofs.Exchange.{reply-consumes}
+use Rattle.claims.proofs.EventChecks.{unsolicited-is}
+use Rattle.claims.proofs.NumberByKind.{found-by}
+use Rattle.claims.proofs.OnePacket.{unmatched-number, each-among}
+use Rattle.claims.proofs.Exchange.{agreed, replying, from-a-host, match-at, reply-consumes}
 use Rattle.claims.proofs.Movements.{moves}
 
 -- ---- another status
@@ -220,43 +223,17 @@ error-frees s from p w r u z x =
 
 -- ---- a status that answers no request
 
--- of a packet of this kind from this side
-abbrev Says : Side → ℕ → Type 0
-Says from n =
-    (s : Session) (id : ℕ) (vs : List Value) (rest : List ℕ) → s .head .present ≡ true → answeredAt (s .requests) (packetOf n id vs rest) ≡ none
-    → firstOf (checksBy s from (packetOf n id vs rest)) ≡ cond (eqb id 0 && stalled (packetOf n id vs rest)) 0 33
-
 other-way : (b : Bool) → _≡_ {A = ℕ} (cond (not b) 33 0) (cond b 0 33)
 other-way true = refl
 other-way false = refl
 
-iso-says : (from : Side) → Says from 14
-unfolding checksBy
-iso-says Guest s id vs rest h a = rw (h, a) (other-way (eqb id 0 && stalled (packetOf 14 id vs rest)))
-iso-says Host s id vs rest h a = rw (h, a) (other-way (eqb id 0 && stalled (packetOf 14 id vs rest)))
-
-interrupt-says : (from : Side) → Says from 17
-unfolding checksBy
-interrupt-says Guest s id vs rest h a = rw (h, a) (other-way (eqb id 0 && stalled (packetOf 17 id vs rest)))
-interrupt-says Host s id vs rest h a = rw (h, a) (other-way (eqb id 0 && stalled (packetOf 17 id vs rest)))
-
-bulk-says : (from : Side) → Says from 27
-unfolding checksBy
-bulk-says Guest s id vs rest h a = rw (h, a) (other-way (eqb id 0 && stalled (packetOf 27 id vs rest)))
-bulk-says Host s id vs rest h a = rw (h, a) (other-way (eqb id 0 && stalled (packetOf 27 id vs rest)))
-
-each-says : (from : Side) (n : ℕ) → among (14 ∷ 17 ∷ 27 ∷ []) n ≡ true → Says from n
-each-says from n m =
-    cases (eqb n 14) (λ e. at 14 e (iso-says from))
-    (λ e. cases (eqb n 17) (λ f. at 17 f (interrupt-says from))
-    (λ f. cases (eqb n 27) (λ g. at 27 g (bulk-says from)) (λ g. absurd (false≢true (rw (e, f, g) at m)))))
-  where
-    at : (k : ℕ) → eqb n k ≡ true → Says from k → Says from n
-    at k e says = subst (Says from) (sym (eqb-true n k e)) says
-
 pub stall-alone : StallAlone
 stall-alone s from p w m h n =
-    number-by s from p w ∙ each-says from (p .kind) m s (p .id) (p .fields) (p .rest) h (unanswered (answeredAt (s .requests) p) refl)
+    let r : isReply from (p .kind) (inwardOf p) ≡ true = each-among (λ (k : ℕ). isReply from k (inwardOf p)) (14 ∷ 17 ∷ 27 ∷ []) (p .kind) refl m in
+    let a = agreed s from p w in
+    let u = match-at s from p w r none (found-by s from p a r ∙ unanswered (answeredAt (s .requests) p) refl) in
+    unmatched-number s (eventOf from p) (replying s from p w r) (from-a-host s from p w r) u
+    ∙ rw (h, unsolicited-is s from p a r, m) (other-way (eqb (p .id) 0 && stalled p))
   where
     unanswered : (o : Option ℕ) → answeredAt (s .requests) p ≡ o → answeredAt (s .requests) p ≡ none
     unanswered none e = e

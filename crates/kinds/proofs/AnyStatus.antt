@@ -4,12 +4,11 @@
 -- Assumes nothing.
 use Prim.Native.Nat.{ℕ, zero, suc, _+_, _*_}
 use Prim.Native.String.{String}
-use mathlib.Core.Path.{_≡_, refl, sym, ap, subst, _∙_}
+use mathlib.Core.Path.{_≡_, refl, sym, ap, _∙_}
 use mathlib.Core.Bool.{Bool, true, false, cond, not, _&&_, false≢true}
 use mathlib.Core.List.{List, [], _∷_}
-use mathlib.Core.Option.{Option, none, some, Option·none-ne-some, Option·some-injective}
+use mathlib.Core.Option.{Option, none, some}
 use lib.ListN.{length, replicate, length-replicate, length-append}
-use lib.Dec.{eqb}
 use lib.Text.{eqt}
 use borrow.Table.Steps.{cases}
 use Rattle.octets.proofs.Logic.{and-parts, or-parts, false-not}
@@ -22,6 +21,7 @@ use Rattle.kinds.specs.Content.{Value, Content, shared, sizeOf, bytesOfV
 use Rattle.kinds.specs.Number.{surplus, complete, dataLength, tailOk, holds, orElse, firstBad, badField, badFields, bad, kindNumber, wireNumber, byKind}
 use Rattle.kinds.specs.Codec.{layout, bodyOf, encode, packetNumber, writeNumber}
 use Rattle.kinds.proofs.FieldBytes.{length-all}
+use Rattle.kinds.proofs.TableLines.{everyLine, of-found}
 use Rattle.kinds.specs.AnyStatus.{replacedBy, statusIn, withStatus, hasStatus, AnyStatus, AnyStatusWritten}
 
 -- ---- of the table: a status has no rule, and is not what a check looks up by its name
@@ -62,21 +62,12 @@ abbrev unread : List Field → Bool
 unread [] = true
 unread (f ∷ fs) = cond (eqt "status" (f .name)) (isAny (f .rule) && not (lookedUp (f .name))) true && unread fs
 
-abbrev allUnread : List Kind → Bool
-allUnread [] = true
-allUnread (k ∷ ks) = unread (k .fields) && allUnread ks
-
-all-unread : allUnread kinds ≡ true
+all-unread : everyLine unread kinds ≡ true
 unfolding kinds
 all-unread = refl
 
-found-unread : (n : ℕ) (ks : List Kind) (k : Kind) → allUnread ks ≡ true → find n ks ≡ some k → unread (k .fields) ≡ true
-found-unread n [] k a e = absurd (Option·none-ne-some k e)
-found-unread n (r ∷ rs) k a e =
-    let h = and-parts (unread (r .fields)) (allUnread rs) a in
-    cases (eqb n (r .number))
-    (λ t. let q : r ≡ k = Option·some-injective r k (rw t at e) in subst (λ (m : Kind). unread (m .fields) ≡ true) q (h .0))
-    (λ t. found-unread n rs k (h .1) (rw t at e))
+found-unread : (n : ℕ) (k : Kind) → find n kinds ≡ some k → unread (k .fields) ≡ true
+found-unread n k f = of-found unread refl n kinds k all-unread f
 
 -- ---- what a check asks of the fields stays
 
@@ -178,7 +169,7 @@ any-status l p x = go (find (p .kind) kinds) refl
     go : (o : Option Kind) → find (p .kind) kinds ≡ o
         → byKind l o (record { kind = p .kind; id = p .id; fields = statusIn x (fieldsOf o) (p .fields); rest = p .rest }) ≡ byKind l o p
     go none f = refl
-    go (some k) f = kind-same l k p x (found-unread (p .kind) kinds k all-unread f)
+    go (some k) f = kind-same l k p x (found-unread (p .kind) k f)
 
 -- ---- and what is written is as long
 
@@ -226,7 +217,7 @@ kept p x = go (find (p .kind) kinds) refl
     go : (o : Option Kind) → find (p .kind) kinds ≡ o → Kept (fieldsOf o) (p .fields) (statusIn x (fieldsOf o) (p .fields))
     go none f = record { endpoint = refl; interface = refl; mask = refl; length = refl }
     go (some k) f =
-        let u : unread (k .fields) ≡ true = found-unread (p .kind) kinds k all-unread f in
+        let u : unread (k .fields) ≡ true = found-unread (p .kind) k f in
         record {
           endpoint = endpoint-same x (k .fields) (p .fields) u;
           interface = interface-same x (k .fields) (p .fields) u;

@@ -30,6 +30,7 @@ use Rattle.kinds.specs.Table.{Sender, G, H, B, Bits, always, bit, bits, 
 use Rattle.kinds.specs.Content.{Value, Content, shared, size, sizeOf, named, find}
 use Rattle.kinds.specs.Number.{sends, surplus, wideId, complete, dataLength, onward, tailOk, sizeOk, zeroAt, holds, orElse, firstBad, badField, badFields, badTail, badId, bad, isNone, streamsAlone, inOrder, kindNumber, byKind, wireNumber}
 use Rattle.kinds.proofs.FieldBytes.{isNone-left, isNone-right}
+use Rattle.kinds.proofs.TableLines.{everyLine, of-found}
 use Rattle.kinds.specs.Slots.{found}
 use Rattle.kinds.specs.Formed.{Line, Sends, Shared, Sharing, endpointByte, countWith, dataCount, Onward, Follow, Sized, Keeps, EndsInZero, Ruled, StreamsToo, Formed, Numbered, WireExactly, WireNumberIs, OneTableLine, SharedBit, SharedBits, Address}
 
@@ -226,24 +227,12 @@ abbrev lineFits : List Field → Bool
 lineFits [] = true
 lineFits (f ∷ fs) = cond (eqt "length high" (f .name)) (isSix (f .there)) true && rowsFit (f .rule) (f .times) && lineFits fs
 
-abbrev allLinesFit : List Kind → Bool
-allLinesFit [] = true
-allLinesFit (k ∷ ks) = lineFits (k .fields) && allLinesFit ks
-
-fits-found : (n : ℕ) (ks : List Kind) (k : Kind) → allLinesFit ks ≡ true → find n ks ≡ some k → lineFits (k .fields) ≡ true
-fits-found n [] k s e = absurd (Option·none-ne-some _ e)
-fits-found n (r ∷ rs) k s e =
-    let h = and-parts (lineFits (r .fields)) (allLinesFit rs) s in
-    cases (eqb n (r .number))
-    (λ t. let q : r ≡ k = Option·some-injective _ _ (rw t at e) in subst (λ (m : Kind). lineFits (m .fields) ≡ true) q (h .0))
-    (λ t. fits-found n rs k (h .1) (rw t at e))
-
-all-lines-fit : allLinesFit kinds ≡ true
+all-lines-fit : everyLine lineFits kinds ≡ true
 unfolding kinds
 all-lines-fit = refl
 
 line-fits : (p : Content) (k : Kind) → Line p k → lineFits (k .fields) ≡ true
-line-fits p k h = fits-found (p .kind) kinds k all-lines-fit (of-line p k h)
+line-fits p k h = of-found lineFits refl (p .kind) kinds k all-lines-fit (of-line p k h)
 
 -- a field's own part of it, and the others'
 fits-first : (f : Field) (fs : List Field) → lineFits (f ∷ fs) ≡ true → (cond (eqt "length high" (f .name)) (isSix (f .there)) true ≡ true) × (rowsFit (f .rule) (f .times) ≡ true) × (lineFits fs ≡ true)

@@ -1,6 +1,6 @@
 -- A body with another byte in the place of its status reads as the packet with that status (`status-byte`); so it has the same number
 -- (`any-status-byte`).
--- Of the table's lines: a status is one byte, is there whatever is shared, and no other follows (`found-single`). By induction over the fields:
+-- Of the table's lines: a status is one byte, is there whatever is shared, and no other follows (`all-single`). By induction over the fields:
 -- those before the status are read off bytes that stay (`value-before`), the status is the byte that was put there (`put-byte`), and those behind
 -- it are read off what follows, none of them replaced (`none-replaced`). What follows the fields stays, as the status stands before it (`within`).
 -- Assumes nothing.
@@ -20,10 +20,11 @@ use borrow.Table.Steps.{cases}
 use Rattle.octets.specs.Little.{le}
 use Rattle.header.specs.Link.{sharedSet}
 use Rattle.octets.proofs.Logic.{and-parts}
-use Rattle.kinds.specs.Table.{Bits, always, bit, bits, Field, Kind, kinds}
-use Rattle.kinds.specs.Content.{Value, shared, sizeOf, size, numbers, whole, split, find, fieldsOf}
+use Rattle.kinds.specs.Table.{Bits, always, bit, bits, Field, kinds}
+use Rattle.kinds.specs.Content.{Value, shared, sizeOf, size, numbers, whole, split}
 use Rattle.kinds.specs.Number.{wireNumber}
 use Rattle.kinds.specs.Codec.{layout, contentAt}
+use Rattle.kinds.proofs.TableLines.{everyLine, found-line}
 use Rattle.kinds.proofs.AnyStatus.{any-status, none-replaced}
 use Rattle.kinds.specs.AnyStatus.{statusIn, hasStatus, statusAt, StatusByte, AnyStatusByte}
 
@@ -46,19 +47,9 @@ abbrev single : List Field → Bool
 single [] = true
 single (f ∷ fs) = cond (eqt "status" (f .name)) (oneByte f && not (hasStatus fs)) (single fs)
 
-abbrev allSingle : List Kind → Bool
-allSingle [] = true
-allSingle (k ∷ ks) = single (k .fields) && allSingle ks
-
-all-single : allSingle kinds ≡ true
+all-single : everyLine single kinds ≡ true
 unfolding kinds
 all-single = refl
-
-found-single : (n : ℕ) (ks : List Kind) → allSingle ks ≡ true → single (fieldsOf (find n ks)) ≡ true
-found-single n [] a = refl
-found-single n (k ∷ ks) a =
-    let h = and-parts (single (k .fields)) (allSingle ks) a in
-    cases (eqb n (k .number)) (λ t. rw t (h .0)) (λ t. rw t (found-single n ks (h .1)))
 
 -- ---- what is read before place i is read the same with another byte there
 
@@ -134,7 +125,7 @@ module _ (caps : ℕ) where
 pub status-byte : StatusByte
 unfolding contentAt layout
 status-byte caps kind id body x h =
-    let a : single (layout kind) ≡ true = found-single kind kinds all-single in
+    let a : single (layout kind) ≡ true = found-line single refl kind kinds all-single in
     let at : ℕ = statusAt (shared caps) (layout kind) in
     λ i. record {
       kind = kind;

@@ -3,7 +3,8 @@
 use plain::{Side, HOLD_SIZE};
 use Side::{Guest, Host};
 
-use crate::script::{Item, Script};
+use crate::drive::{by_drive, Run};
+use crate::script::{Item, Outcome, Script};
 use crate::traffic::{endpoint_of, BULK, INTERRUPT, ISO};
 
 /// Bits of a hello's word.
@@ -149,6 +150,16 @@ impl Hand {
             BULK => self.sent(Host, 104, id, &[0, 0, 0, 0, 0, 0, 0, 0, endpoint, 0], 0),
             _ => self.sent(Host, 103, id, &[endpoint, 0, 0, 0], 0),
         }
+    }
+
+    /// What a function of the library tells of the script; its numbers are those written down.
+    pub fn told_by(&self, run: Run) -> Result<Outcome, String> {
+        let told = by_drive(run, &self.script);
+        let numbers: Vec<u8> = told.calls.iter().map(|call| call.number).collect();
+        if numbers != self.numbers {
+            return Err(format!("numbers {numbers:?}, not {:?}", self.numbers));
+        }
+        Ok(told)
     }
 
     /// The first calls of the script.

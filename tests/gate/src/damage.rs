@@ -48,11 +48,7 @@ impl Planner<'_> {
             return (side, bytes);
         }
         let kind = u32::from_le_bytes(bytes[..4].try_into().expect("4 bytes"));
-        let header = if self.session().is_wide() && kind != 0 {
-            16
-        } else {
-            12
-        };
+        let header = self.header_size(kind);
         match self.random.below(if self.style.stops { 16 } else { 12 }) {
             0 => (side.other(), bytes),
             1 => (side, self.of_kind(bytes)),

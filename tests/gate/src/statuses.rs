@@ -7,7 +7,7 @@ use tools::hex;
 use Side::{Guest, Host};
 
 use crate::by_hand::{width, Hand, BULK_RECEIVING, MAX_PACKET, STREAMS};
-use crate::drive::{by_drive, compare, run, run_by_value, Run};
+use crate::drive::{compare, run, run_by_value, Run};
 use crate::traffic::{BULK, INTERRUPT, ISO};
 
 /// The rows of the device: streams on 18, 19 and 20, which are open; the others take requests.
@@ -56,6 +56,14 @@ struct Sample {
     id: u64,
     body: &'static str,
     effect: Effect,
+}
+
+impl Sample {
+    /// The script, and behind it the packet with this status, which gets that number.
+    fn sent(&self, hand: Hand, status: u8, number: u8) -> Hand {
+        let body = bytes(&self.body.replace("ss", &format!("{status:02x}")));
+        hand.sent(self.from, self.kind, self.id, &body, number)
+    }
 }
 
 use Effect::*;
@@ -189,7 +197,6 @@ fn script(sample: &Sample, wide: bool, status: u8) -> Hand {
     if let Some((kind, body)) = sample.asked {
         hand = hand.sent(Guest, kind, ASKED, &bytes(body), 0);
     }
-    let body = bytes(&sample.body.replace("ss", &format!("{status:02x}")));
     let (number, again) = match sample.effect {
         Unasked(_) | UnaskedElsewhere if status == STALL => (0, 0),
         Unasked(_) | UnaskedElsewhere | Unmatched => (33, 33),
@@ -206,16 +213,10 @@ fn script(sample: &Sample, wide: bool, status: u8) -> Hand {
         Unasked(of) => of != row || status != STALL,
         _ => true,
     };
-    hand = hand
-        .sent(sample.from, sample.kind, sample.id, &body, number)
-        .sent(sample.from, sample.kind, sample.id, &body, again)
-        .sent(
-            Host,
-            101,
-            WAITING,
-            &[0x85, 0, 0, 0, 0, 0, 0, 0],
-            if settled { 33 } else { 0 },
-        );
+    hand = sample.sent(hand, status, number);
+    hand = sample.sent(hand, status, again);
+    let answered = if settled { 33 } else { 0 };
+    hand = hand.sent(Host, 101, WAITING, &[0x85, 0, 0, 0, 0, 0, 0, 0], answered);
     for row in [18, 19, 20] {
         hand = hand.data(row, 1);
         if !open(row) {
@@ -231,14 +232,8 @@ fn script(sample: &Sample, wide: bool, status: u8) -> Hand {
 
 /// The packet with this status where there is no device.
 fn after_disconnect(sample: &Sample, wide: bool, status: u8) -> Hand {
-    let body = bytes(&sample.body.replace("ss", &format!("{status:02x}")));
-    Hand::with(word(wide), ROWS.to_vec()).disconnect().sent(
-        sample.from,
-        sample.kind,
-        sample.id,
-        &body,
-        25,
-    )
+    let hand = Hand::with(word(wide), ROWS.to_vec()).disconnect();
+    sample.sent(hand, status, 25)
 }
 
 pub fn every_byte() -> Result<String, String> {
@@ -268,11 +263,7 @@ pub fn every_byte() -> Result<String, String> {
 /// same answers, and has the same buffers and the same watch at the end.
 fn as_written(hand: &Hand) -> Result<(), String> {
     for run in [run as Run, run_by_value] {
-        let told = by_drive(run, &hand.script);
-        let numbers: Vec<u8> = told.calls.iter().map(|call| call.number).collect();
-        if numbers != hand.numbers {
-            return Err(format!("{numbers:?}, not {:?}", hand.numbers));
-        }
+        hand.told_by(run)?;
     }
     compare(&hand.script).map(drop)
 }

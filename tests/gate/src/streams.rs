@@ -173,7 +173,7 @@ impl Planner<'_> {
             }
             1 => {
                 let kind = self.data_kind(row);
-                let header = if self.session().is_wide() { 16 } else { 12 };
+                let header = self.header_size(kind);
                 let mut bytes = self.data_of(kind, id, row, 0);
                 bytes[header + endpoint_at(kind)] ^= self.random.pick(&[0x10, 0x20, 0x40]);
                 bytes

@@ -158,13 +158,18 @@ impl Planner<'_> {
     pub fn frame(&self, kind: u32, id: u64, body: &[u8]) -> Vec<u8> {
         let mut bytes = kind.to_le_bytes().to_vec();
         bytes.extend((body.len() as u32).to_le_bytes());
-        if self.session().is_wide() && kind != 0 {
-            bytes.extend(id.to_le_bytes());
-        } else {
-            bytes.extend((id as u32).to_le_bytes());
-        }
+        bytes.extend(&id.to_le_bytes()[..self.header_size(kind) - 8]);
         bytes.extend(body);
         bytes
+    }
+
+    /// The bytes of a header of this kind.
+    pub fn header_size(&self, kind: u32) -> usize {
+        if self.session().is_wide() && kind != 0 {
+            16
+        } else {
+            12
+        }
     }
 
     // ---- which packet comes next ----

@@ -67,12 +67,7 @@ pub fn by_hand(case: &Case) -> Result<String, String> {
     let Case { hand, rows, .. } = case;
     let script = &hand.script;
     for run in [run as Run, run_by_value] {
-        let told = by_drive(run, script);
-        let numbers: Vec<u8> = told.calls.iter().map(|call| call.number).collect();
-        if numbers != hand.numbers {
-            return Err(format!("numbers {numbers:?}, not {:?}", hand.numbers));
-        }
-        has_rows(rows, &told.watch)?;
+        has_rows(rows, &hand.told_by(run)?.watch)?;
     }
     // The plain gate agrees after each call.
     for count in 0..=script.items.len() {
