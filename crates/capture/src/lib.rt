@@ -1,4 +1,6 @@
 // The report program's lines: an input line decoded, or why it can't be, and the lines that the report writes.
+#![tactic(auto)]
+
 ghost use Rattle.std.specs.Prelude.{◌≡◌, ◌+◌, ◌*◌, ◌<◌, cond, [], ◌++◌};
 ghost use Rattle.std.proofs.lemmas.List.Edits.{sets};
 ghost use Rattle.capture.specs.Lines.{starts_with, between, is_hex, all_hex, hex_value, spelt, piece_of, line_of, Decodes, decimal, side_field, answer_line, totals_line, bad_line, Forms, Adds};
@@ -8,7 +10,7 @@ use header::Side;
 use octets::{lay, part, put, saturating_add};
 
 // Why a line can't be decoded: it starts otherwise; it has too many digits; one of them is none; or their count is odd. Nothing of a good line.
-#[derive(Drop)]
+#[derive(Clone, Copy)]
 pub enum Flaw {
     Nothing,
     Start,
@@ -18,7 +20,7 @@ pub enum Flaw {
 }
 
 // What an input line offers: nothing, and why; or a piece of so many bytes from a side.
-#[derive(Drop)]
+#[derive(Clone, Copy)]
 pub enum Line {
     Bad(Flaw),
     Piece(Side, usize),

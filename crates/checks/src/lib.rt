@@ -1,4 +1,6 @@
 // The session checks 25 to 34: a packet's case is ruled on over the columns of the session, which are lent.
+#![tactic(auto)]
+
 ghost use Rattle.std.specs.Prelude.{◌≡◌, cond};
 ghost use Rattle.device.specs.declared.Rows.{Rows};
 ghost use Rattle.requests.specs.declared.Requests.{Requests};
@@ -15,7 +17,7 @@ use events::{Case, Reply, Typed, is_stall, is_success};
 use requests::{FoundPlace, PLACES, Request, Slot, find_free, find_id, is_settling, kind_at};
 
 // What a packet that passes does.
-#[derive(Drop)]
+#[derive(Clone, Copy)]
 pub enum Change {
     NoChange,
     // data of the host on a stream, with its id
@@ -37,14 +39,14 @@ pub enum Change {
 }
 
 // What a status does to the stream of its row: it closes it, opens it, or closes it by a stall.
-#[derive(Drop)]
+#[derive(Clone, Copy)]
 pub enum StreamMove {
     Closes,
     Opens,
     Stalls,
 }
 
-#[derive(Drop)]
+#[derive(Clone, Copy)]
 pub enum Ruling {
     Denied(u8),
     Granted(Change),
@@ -54,7 +56,7 @@ pub enum Ruling {
 
 // What the slot of a request has to have for its reply to pass: a length of at least this, and this endpoint or interface byte where
 // it is compared; and whether the reply may come unasked.
-#[derive(Drop)]
+#[derive(Clone, Copy)]
 pub struct Expected {
     pub length: u32,
     pub target: u8,

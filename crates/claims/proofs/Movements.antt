@@ -25,7 +25,7 @@ use Rattle.device.specs.declared.Scope.{Scope}
 use Rattle.device.specs.declared.Scope.TheVariants.{OfInterface, EveryRow, NoRow}
 use Rattle.device.specs.declared.Rows.{Rows}
 use Rattle.device.specs.declared.Introduction.{Introduction}
-use Rattle.device.proofs.RowChanges.{start-at, with_stream, closed_at, stream_at_lem, replaced-at}
+use Rattle.device.proofs.RowChanges.{start-at, with_stream, closed_at, stream_at, replaced-at}
 use Rattle.requests.specs.declared.Requests.{Requests}
 use Rattle.requests.specs.Requests.{Place, places_of, place_at, fresh_requests, lowest, cleared, free_place}
 use Rattle.requests.proofs.Places.{places-at, cleared_at}
@@ -170,7 +170,7 @@ module _ (s : Session) (p : Content) where
       → row_at (closed (stream_to d (endpoint_named p) k opens) (scope_of e match)) r ≡ streamed_row d r (endpoint_named p) k (eqb e.status 0 && eqb (answered_kind t p) e.answers.first)
   reported d r h k z n m =
       let x = endpoint_named p in
-      unchanged (stream_to d x k opens) r h n m ∙ stream_at_lem d x k opens r h ∙ ap (streamed_row d r x k) (opens-is z)
+      unchanged (stream_to d x k opens) r h n m ∙ stream_at d x k opens r h ∙ ap (streamed_row d r x k) (opens-is z)
 
 -- ---- for each kind of the table, from whoever may send it
 
@@ -248,10 +248,10 @@ every-kind-moves =
     also by-guest KindMoves 9 (λ s id vs rest. (refl, λ r h. refl))
     also by-guest KindMoves 10 (λ s id vs rest. (refl, λ r h. refl))
     also by-host KindMoves 11 (λ s id vs rest. (refl, λ r h. altered s (packet_of 11 id vs rest) s.rows r h refl))
-    also by-guest KindMoves 12 (λ s id vs rest. (refl, λ r h. stream_at_lem s.rows (endpoint_named (packet_of 12 id vs rest)) iso true r h))
+    also by-guest KindMoves 12 (λ s id vs rest. (refl, λ r h. stream_at s.rows (endpoint_named (packet_of 12 id vs rest)) iso true r h))
     also by-guest KindMoves 13 (λ s id vs rest. (refl, λ r h. refl))
     also by-host KindMoves 14 (λ s id vs rest. (refl, λ r h. reported s (packet_of 14 id vs rest) s.rows r h iso refl refl refl))
-    also by-guest KindMoves 15 (λ s id vs rest. (refl, λ r h. stream_at_lem s.rows (endpoint_named (packet_of 15 id vs rest)) interrupt true r h))
+    also by-guest KindMoves 15 (λ s id vs rest. (refl, λ r h. stream_at s.rows (endpoint_named (packet_of 15 id vs rest)) interrupt true r h))
     also by-guest KindMoves 16 (λ s id vs rest. (refl, λ r h. refl))
     also by-host KindMoves 17 (λ s id vs rest. (refl, λ r h. reported s (packet_of 17 id vs rest) s.rows r h interrupt refl refl refl))
     also by-guest KindMoves 18 (λ s id vs rest. (refl, λ r h. refl))
@@ -261,7 +261,7 @@ every-kind-moves =
     also by-guest KindMoves 22 (λ s id vs rest. (refl, λ r h. refl))
     also by_both KindMoves 23 (λ s id vs rest. (refl, λ r h. refl)) (λ s id vs rest. (refl, λ r h. refl))
     also by-guest KindMoves 24 (λ s id vs rest. (refl, λ r h. refl))
-    also by-guest KindMoves 25 (λ s id vs rest. (refl, λ r h. stream_at_lem s.rows (endpoint_named (packet_of 25 id vs rest)) bulk true r h))
+    also by-guest KindMoves 25 (λ s id vs rest. (refl, λ r h. stream_at s.rows (endpoint_named (packet_of 25 id vs rest)) bulk true r h))
     also by-guest KindMoves 26 (λ s id vs rest. (refl, λ r h. refl))
     also by-host KindMoves 27 (λ s id vs rest. (refl, λ r h. reported s (packet_of 27 id vs rest) s.rows r h bulk refl refl refl))
     also by_both KindMoves 100 (λ s id vs rest. (refl, λ r h. refl)) (λ s id vs rest. (refl, λ r h. unchanged s (packet_of 100 id vs rest) s.rows r h refl refl))

@@ -1,4 +1,6 @@
 // Reading: the bytes of one whole packet to its number or its packet.
+#![tactic(auto)]
+
 ghost use Rattle.std.specs.Prelude.{◌≡◌, ◌≤◌, ◌<◌, ◌^◌, length};
 ghost use Rattle.octets.specs.Little.{le};
 ghost use Rattle.kinds.specs.Table.{kind_at};
@@ -21,7 +23,7 @@ use rules::{
 };
 
 // The number by which the bytes are refused, or the header and the packet that they are.
-#[derive(Drop)]
+#[derive(Clone, Copy)]
 pub enum Reading {
     Refused(u8),
     Decoded(Header, Packet),

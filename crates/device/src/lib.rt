@@ -1,4 +1,6 @@
 // The device as the session knows it: its head, which is small and changes often, and the rows of its endpoints with their streams.
+#![tactic(auto)]
+
 ghost use Rattle.std.specs.Prelude.{◌≡◌};
 ghost use Rattle.device.specs.Device.{start_rows, start_head, state_at, mask_mistyped, replaced, stream_to, touches, closed, touched, control_rows};
 ghost use Rattle.device.specs.Columns.{stream_row};
@@ -10,7 +12,7 @@ use header::HelloState;
 
 // The rows of the endpoints, a column for each thing that is kept of them: type and interface as the endpoint table gave them, and
 // whether the stream is open.
-#[derive(Drop)]
+#[derive(Clone, Copy)]
 pub struct Rows {
     pub types: [u8; 32],
     pub interfaces: [u8; 32],
@@ -18,7 +20,7 @@ pub struct Rows {
 }
 
 // How far a device is introduced: not, by its endpoints, by its endpoints and then its interfaces.
-#[derive(Drop)]
+#[derive(Clone, Copy)]
 pub enum Introduction {
     Unintroduced,
     One,
@@ -26,7 +28,7 @@ pub enum Introduction {
 }
 
 // The bytes of an unfinished packet that each direction holds.
-#[derive(Drop)]
+#[derive(Clone, Copy)]
 pub struct Held {
     pub guest: usize,
     pub host: usize,
@@ -34,7 +36,7 @@ pub struct Held {
 
 // What is small and changes often: both hellos, whether the session is stopped, what is held, whether the device is there, how far it is
 // introduced, and whether the ack of its last disconnect is owed.
-#[derive(Drop)]
+#[derive(Clone, Copy)]
 pub struct Head {
     pub guest: HelloState,
     pub host: HelloState,
@@ -46,7 +48,7 @@ pub struct Head {
 }
 
 // The rows whose data requests and streams a packet ends.
-#[derive(Drop)]
+#[derive(Clone, Copy)]
 pub enum Scope {
     NoRow,
     EveryRow,

@@ -1,4 +1,6 @@
 // Writing: a packet with its body to the number and the bytes put out.
+#![tactic(auto)]
+
 ghost use Rattle.std.specs.Prelude.{◌≡◌, ◌+◌, ◌≤◌, ◌<◌, length};
 ghost use Rattle.std.proofs.lemmas.List.Edits.{sets};
 ghost use Rattle.header.specs.Link.{shared_set};
@@ -15,7 +17,7 @@ use packet::{Fields, Packet, fields_of, part_of};
 use rules::wire_number;
 
 // The number of a packet that was to be written, and the bytes put out: none where it is not 0.
-#[derive(Drop)]
+#[derive(Clone, Copy)]
 pub struct Written {
     pub number: u8,
     pub size: usize,

@@ -1,4 +1,6 @@
 // Endpoint address bytes, rows of the endpoint table, and masks of rows.
+#![tactic(auto)]
+
 ghost use Rattle.std.specs.Prelude.{◌≡◌};
 ghost use Rattle.octets.specs.Bits.{has_bit};
 ghost use Rattle.endpoint.specs.Endpoint.{is_address, is_in, row_of, endpoint_of};
@@ -6,22 +8,22 @@ ghost use Rattle.endpoint.specs.Endpoint.{is_address, is_in, row_of, endpoint_of
 use octets::has_bit;
 
 // An endpoint's address as on the wire: the number in bits 0 to 3, IN in bit 7.
-#[derive(Drop)]
+#[derive(Clone, Copy)]
 pub struct Endpoint(pub u8);
 
 // A row of the endpoint table: 0 to 15 for OUT, 16 to 31 for IN.
-#[derive(Drop)]
+#[derive(Clone, Copy)]
 pub struct Row(pub u8);
 
 // The row of an address, if it is one.
-#[derive(Drop)]
+#[derive(Clone, Copy)]
 pub enum RowOf {
     At(Row),
     Malformed,
 }
 
 // The endpoint of a row, if it is one of the 32.
-#[derive(Drop)]
+#[derive(Clone, Copy)]
 pub enum EndpointOf {
     Of(Endpoint),
     Outside,

@@ -1,4 +1,6 @@
 // The entry for callers that keep a session record: the gate's reader, with the session changed in place.
+#![tactic(auto)]
+
 ghost use Rattle.std.specs.Prelude.{◌≡◌};
 ghost use Rattle.session.specs.Session.{link_of};
 ghost use Rattle.gate.specs.Offer.{outcome, offer_of};

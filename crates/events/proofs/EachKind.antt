@@ -7,8 +7,6 @@ use mathlib.Core.Path.{◌≡◌, refl}
 use mathlib.Core.Bool.{Bool, true, false, cond, not, ◌&&◌}
 use mathlib.Core.List.{List, [], ◌∷◌}
 use borrow.Table.Steps.{cases as either}
-use denote.Enum.Declared.{tag_of}
-use types.Run.{OneOf, miss}
 use Rattle.octets.specs.Little.{le}
 use Rattle.endpoint.specs.declared.Endpoint.{Endpoint}
 use Rattle.endpoint.specs.Endpoint.{is_in}
@@ -17,7 +15,7 @@ use Rattle.header.specs.declared.Side.TheVariants.{Guest, Host}
 use Rattle.header.specs.Link.{is_guest}
 use Rattle.kinds.specs.Table.{kinds}
 use Rattle.kinds.specs.Codec.{layout}
-use Rattle.packet.specs.contracts.Packet.{the_type}
+use Rattle.packet.specs.declared.EndpointTable.{EndpointTable as EndpointTableFields}
 use Rattle.packet.specs.declared.Iso.{Iso as IsoFields}
 use Rattle.packet.specs.declared.Interrupt.{Interrupt as InterruptFields}
 use Rattle.packet.specs.declared.Packet.{Packet}
@@ -160,17 +158,14 @@ interrupt-means from id x body g i b p q t = rw (← t, p, q) (means from id (In
 
 -- ---- the rows of any packet but an endpoint table, whose key is 5
 
-abbrev keys : List ℕ
-keys = 0 ∷ 1 ∷ 2 ∷ 3 ∷ 4 ∷ 6 ∷ 7 ∷ 8 ∷ 9 ∷ 10 ∷ 11 ∷ 12 ∷ 13 ∷ 14 ∷ 15 ∷ 16 ∷ 17 ∷ 18 ∷ 19 ∷ 20 ∷ 21 ∷ 22 ∷ 23 ∷ 24 ∷ 25 ∷ 26 ∷ 27 ∷ 28 ∷ 29 ∷ 30 ∷ 31 ∷ 32 ∷ []
-
-pub others : (p : Packet) (body : List ℕ) → OneOf keys (tag_of the_type p) → Announces p body start_rows
+pub others : (p : Packet) (body : List ℕ) → ((t : EndpointTableFields) → p ≡ EndpointTable t → ⊥) → Announces p body start_rows
 unfolding event_of content_of
 others (Hello x) body k from caps id = refl
 others (Connect x) body k from caps id = refl
 others Disconnect body k from caps id = refl
 others Reset body k from caps id = refl
 others (InterfaceTable x) body k from caps id = refl
-others (EndpointTable x) body k from caps id = absurd (miss keys 5 tt k)
+others (EndpointTable x) body k from caps id = absurd (k x refl)
 others (SetConfiguration x) body k from caps id = refl
 others GetConfiguration body k from caps id = refl
 others (ConfigurationStatus x) body k from caps id = refl

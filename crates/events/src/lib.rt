@@ -1,4 +1,6 @@
 // What a packet means to the session: its case, with what the session rules ask of a packet of its class and no more.
+#![tactic(auto)]
+
 ghost use Rattle.std.specs.Prelude.{◌≡◌, true, false, cond};
 ghost use Rattle.header.specs.Link.{is_guest};
 ghost use Rattle.kinds.specs.Codec.{layout};
@@ -16,7 +18,7 @@ use packet::{EndpointTable, Packet, endpoint_row, part_of};
 use requests::{Answerable, Request};
 
 // The rows that a packet is about, and the type that its kind wants them to have.
-#[derive(Drop)]
+#[derive(Clone, Copy)]
 pub enum Typed {
     Untyped,
     OfEndpoint(Endpoint, u8),
@@ -24,7 +26,7 @@ pub enum Typed {
 }
 
 // A reply: the request that it answers, as it tells it; which requests it can answer; its status.
-#[derive(Drop)]
+#[derive(Clone, Copy)]
 pub struct Reply {
     pub told: Request,
     pub answers: Answerable,
@@ -46,7 +48,7 @@ pub fn is_stall(status: u8) -> bool
 }
 
 // What a packet is to the session.
-#[derive(Drop)]
+#[derive(Clone, Copy)]
 pub enum Case {
     // with its first capability word
     Hello(u32),

@@ -1,4 +1,6 @@
 // Framing: what the held bytes with a piece behind them are, what of the piece goes into the holding buffer, and where a packet lies.
+#![tactic(auto)]
+
 ghost use Rattle.std.specs.Prelude.{◌≡◌, ◌++◌, ◌-◌, ◌<◌, ◌≤◌, get_or};
 ghost use Rattle.octets.specs.Little.{le};
 ghost use Rattle.frame.specs.Frame.{cut_for, ends_within, completed, location_for, bytes_at};
@@ -8,7 +10,7 @@ use octets::{get32, lay, part, saturating_sub, wide};
 
 // What bytes are, counted from a packet's first byte: not a whole packet yet; a header that is refused, with its number and its
 // size; or a whole packet, with its kind, the size of its header and its own.
-#[derive(Drop)]
+#[derive(Clone, Copy)]
 pub enum Cut {
     More,
     BadHeader(u8, usize),
@@ -16,7 +18,7 @@ pub enum Cut {
 }
 
 // Where a packet's bytes lie: at the front of the piece or of the holding buffer.
-#[derive(Drop)]
+#[derive(Clone, Copy)]
 pub enum Location {
     Nowhere,
     Piece,

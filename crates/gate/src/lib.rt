@@ -1,4 +1,6 @@
 // The gate: a reader that is offered pieces of what each end sends, and a writer, over one session.
+#![tactic(auto)]
+
 ghost use Rattle.std.specs.Prelude.{◌≡◌, List, ◌++◌, ℕ, ◌≤◌, length, take};
 ghost use Rattle.header.specs.declared.Side.{Side};
 ghost use Rattle.header.specs.Link.{shared_set};
@@ -28,7 +30,7 @@ use session::{Session, apply, edit_of, has_wide_ids, held_in, hold_to, is_unfit,
 use watch::{Watch, note};
 
 // What is handed out: nothing, or the packet that passed as its own reading.
-#[derive(Drop)]
+#[derive(Clone, Copy)]
 pub enum Handed {
     NoPacket,
     OnePacket(Header, Packet),
@@ -36,7 +38,7 @@ pub enum Handed {
 
 // A reader call's number; the bytes that it took of its piece; where the packet lies, or the header that it refused, and its size; and
 // what it hands out.
-#[derive(Drop)]
+#[derive(Clone, Copy)]
 pub struct Answer {
     pub number: u8,
     pub taken: usize,
@@ -46,7 +48,7 @@ pub struct Answer {
 }
 
 // The session after a reader call, and the call's answer.
-#[derive(Drop)]
+#[derive(Clone, Copy)]
 pub struct Offered {
     pub session: Session,
     pub answer: Answer,
@@ -54,7 +56,7 @@ pub struct Offered {
 
 // A call decided: its answer, the bytes held after it, whether the session is stopped then, and the ruling on its packet. Where the
 // ruling waits for a slot, the answer is that of a packet that passes.
-#[derive(Drop)]
+#[derive(Clone, Copy)]
 pub struct Decided {
     pub answer: Answer,
     pub held: usize,

@@ -1,4 +1,6 @@
 // The two ends, what their hellos offered, the shared set, and the packet header with its two widths.
+#![tactic(auto)]
+
 ghost use Rattle.std.specs.Prelude.{◌≡◌};
 ghost use Rattle.header.specs.Link.{is_guest, side_of, offered, shared_set, passed, id_width};
 ghost use Rattle.header.specs.Header.{header_of, header_number};
@@ -11,21 +13,21 @@ pub const MAX_LENGTH: usize = 32768;
 // The least holding buffer: room for the longest header and the longest body.
 pub const HOLD_SIZE: usize = 16 + MAX_LENGTH;
 
-#[derive(Drop)]
+#[derive(Clone, Copy)]
 pub enum Side {
     Guest,
     Host,
 }
 
 // An end's hello: not passed yet, or passed with this first capability word (0 if it had none).
-#[derive(Drop)]
+#[derive(Clone, Copy)]
 pub enum HelloState {
     Awaited,
     Passed(u32),
 }
 
 // One direction of a session as the wire checks see it: who sends, and both hellos.
-#[derive(Drop)]
+#[derive(Clone, Copy)]
 pub struct Link {
     pub sender: Side,
     pub guest: HelloState,
@@ -33,7 +35,7 @@ pub struct Link {
 }
 
 // A header as read: its kind, the body length that it says, its id, and its own size in bytes.
-#[derive(Drop)]
+#[derive(Clone, Copy)]
 pub struct Header {
     pub kind: u32,
     pub length: u32,

@@ -1,5 +1,7 @@
 // Columns of the table of kinds (specs/Table.antt) as the code asks for them, by slot: kinds 0 to 27 stand at their
 // number and 100 to 104 at 28 to 32. A slot past these asks for no kind: any sender, no bit, no field.
+#![tactic(auto)]
+
 ghost use Rattle.std.specs.Prelude.{◌≡◌, not};
 ghost use Rattle.header.specs.declared.Side.TheVariants.{Guest, Host};
 ghost use Rattle.kinds.specs.Table.{kind_at};

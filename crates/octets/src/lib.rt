@@ -1,5 +1,7 @@
 // Little-endian integers of any width up to 8 bytes, in slices, and the bits of a number.
 // Reading past a slice's end gives 0 and writing there changes nothing, so no caller owes an index.
+#![tactic(auto)]
+
 ghost use Rattle.std.specs.Prelude.{◌≡◌, ◌+◌, ◌-◌, ◌≤◌, ◌<◌, ◌^◌, min, cond, length, get_or, set, leb};
 ghost use Rattle.std.proofs.lemmas.List.Edits.{sets};
 ghost use Rattle.std.proofs.Math.Seq.{slice};

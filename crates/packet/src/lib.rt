@@ -1,6 +1,8 @@
 // A packet as its own reading: a variant for each kind, with a struct of the kind's fields by the names of document 01.
 // What is too long for a number stays in the packet's body and is named by its part: a hello's version and words, the rows of
 // the two tables, a filter's string, data. Offsets count from the body's first byte.
+#![tactic(auto)]
+
 ghost use Rattle.std.specs.Prelude.{◌≡◌, ◌≤◌, ◌<◌, ◌^◌, [], ◌∷◌};
 ghost use Rattle.packet.specs.Packet.{in_part, rows_in, optional16_of, is_given, optional, rest_of, is_hello};
 ghost use Rattle.packet.specs.Fields.{or_zero, plain_fields, with_rows, with_rest, Lists};
@@ -10,26 +12,26 @@ use endpoint::{Endpoint, Row};
 use octets::{choose, get, get32, has_bit, part};
 
 // Bytes of the body from start up to end.
-#[derive(Drop)]
+#[derive(Clone, Copy)]
 pub struct Part {
     pub start: usize,
     pub end: usize,
 }
 
 // A field that is there only where its capability is shared.
-#[derive(Drop)]
+#[derive(Clone, Copy)]
 pub enum Optional16 {
     Absent,
     Present(u16),
 }
 
-#[derive(Drop)]
+#[derive(Clone, Copy)]
 pub struct Hello {
     pub version: Part,
     pub words: Part,
 }
 
-#[derive(Drop)]
+#[derive(Clone, Copy)]
 pub struct Connect {
     pub speed: u8,
     pub class: u8,
@@ -40,106 +42,106 @@ pub struct Connect {
     pub version: Optional16,
 }
 
-#[derive(Drop)]
+#[derive(Clone, Copy)]
 pub struct InterfaceTable {
     pub count: u32,
     pub rows: Part,
 }
 
-#[derive(Drop)]
+#[derive(Clone, Copy)]
 pub struct EndpointTable {
     pub rows: Part,
     pub maxpacket: bool,
     pub maxstreams: bool,
 }
 
-#[derive(Drop)]
+#[derive(Clone, Copy)]
 pub struct SetConfiguration {
     pub configuration: u8,
 }
 
-#[derive(Drop)]
+#[derive(Clone, Copy)]
 pub struct ConfigurationStatus {
     pub status: u8,
     pub configuration: u8,
 }
 
-#[derive(Drop)]
+#[derive(Clone, Copy)]
 pub struct SetAlt {
     pub interface: u8,
     pub alt: u8,
 }
 
-#[derive(Drop)]
+#[derive(Clone, Copy)]
 pub struct GetAlt {
     pub interface: u8,
 }
 
-#[derive(Drop)]
+#[derive(Clone, Copy)]
 pub struct AltStatus {
     pub status: u8,
     pub interface: u8,
     pub alt: u8,
 }
 
-#[derive(Drop)]
+#[derive(Clone, Copy)]
 pub struct StartIso {
     pub endpoint: Endpoint,
     pub packets: u8,
     pub urbs: u8,
 }
 
-#[derive(Drop)]
+#[derive(Clone, Copy)]
 pub struct StopIso {
     pub endpoint: Endpoint,
 }
 
-#[derive(Drop)]
+#[derive(Clone, Copy)]
 pub struct IsoStatus {
     pub status: u8,
     pub endpoint: Endpoint,
 }
 
-#[derive(Drop)]
+#[derive(Clone, Copy)]
 pub struct StartInterrupt {
     pub endpoint: Endpoint,
 }
 
-#[derive(Drop)]
+#[derive(Clone, Copy)]
 pub struct StopInterrupt {
     pub endpoint: Endpoint,
 }
 
-#[derive(Drop)]
+#[derive(Clone, Copy)]
 pub struct InterruptStatus {
     pub status: u8,
     pub endpoint: Endpoint,
 }
 
-#[derive(Drop)]
+#[derive(Clone, Copy)]
 pub struct AllocStreams {
     pub mask: u32,
     pub count: u32,
 }
 
-#[derive(Drop)]
+#[derive(Clone, Copy)]
 pub struct FreeStreams {
     pub mask: u32,
 }
 
-#[derive(Drop)]
+#[derive(Clone, Copy)]
 pub struct StreamsStatus {
     pub mask: u32,
     pub count: u32,
     pub status: u8,
 }
 
-#[derive(Drop)]
+#[derive(Clone, Copy)]
 pub struct Filter {
     pub string: Part,
 }
 
-#[derive(Drop)]
+#[derive(Clone, Copy)]
 pub struct StartBulkReceiving {
     pub stream: u32,
     pub bytes: u32,
@@ -147,20 +149,20 @@ pub struct StartBulkReceiving {
     pub transfers: u8,
 }
 
-#[derive(Drop)]
+#[derive(Clone, Copy)]
 pub struct StopBulkReceiving {
     pub stream: u32,
     pub endpoint: Endpoint,
 }
 
-#[derive(Drop)]
+#[derive(Clone, Copy)]
 pub struct BulkReceivingStatus {
     pub stream: u32,
     pub endpoint: Endpoint,
     pub status: u8,
 }
 
-#[derive(Drop)]
+#[derive(Clone, Copy)]
 pub struct Control {
     pub endpoint: Endpoint,
     pub request: u8,
@@ -172,7 +174,7 @@ pub struct Control {
     pub payload: Part,
 }
 
-#[derive(Drop)]
+#[derive(Clone, Copy)]
 pub struct Bulk {
     pub endpoint: Endpoint,
     pub status: u8,
@@ -181,7 +183,7 @@ pub struct Bulk {
     pub payload: Part,
 }
 
-#[derive(Drop)]
+#[derive(Clone, Copy)]
 pub struct Iso {
     pub endpoint: Endpoint,
     pub status: u8,
@@ -189,7 +191,7 @@ pub struct Iso {
     pub payload: Part,
 }
 
-#[derive(Drop)]
+#[derive(Clone, Copy)]
 pub struct Interrupt {
     pub endpoint: Endpoint,
     pub status: u8,
@@ -197,7 +199,7 @@ pub struct Interrupt {
     pub payload: Part,
 }
 
-#[derive(Drop)]
+#[derive(Clone, Copy)]
 pub struct BufferedBulk {
     pub stream: u32,
     pub length: u32,
@@ -206,7 +208,7 @@ pub struct BufferedBulk {
     pub payload: Part,
 }
 
-#[derive(Drop)]
+#[derive(Clone, Copy)]
 pub enum Packet {
     Hello(Hello),
     Connect(Connect),
@@ -293,7 +295,7 @@ pub fn is_hello(p: Packet) -> bool
 
 // The kind's place in the table; the fields that the packet holds as numbers, in body order, and how many of them are there; the part of the body with the
 // fields that are many numbers; the part that follows all fields. A number that is not there is 0, a part an empty one.
-#[derive(Drop)]
+#[derive(Clone, Copy)]
 pub struct Fields {
     pub slot: usize,
     pub count: usize,
@@ -516,14 +518,14 @@ pub fn fields_of(caps: u32, p: Packet) -> Fields
 // ---- what a packet leaves in its body, read by row: the rows of the two tables, a hello's version and words
 
 // A word or a column's number that may not be there.
-#[derive(Drop)]
+#[derive(Clone, Copy)]
 pub enum Optional32 {
     Absent,
     Present(u32),
 }
 
 // One of the 32 interfaces of an interface table.
-#[derive(Drop)]
+#[derive(Clone, Copy)]
 pub struct InterfaceRow {
     pub interface: u8,
     pub class: u8,
@@ -532,7 +534,7 @@ pub struct InterfaceRow {
 }
 
 // One of the 32 rows of an endpoint table.
-#[derive(Drop)]
+#[derive(Clone, Copy)]
 pub struct EndpointRow {
     // the endpoint's type
     pub ty: u8,

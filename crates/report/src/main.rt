@@ -1,5 +1,7 @@
 // The report program: reads pieces from standard input, a line each, offers them to a session, and prints a line for each answer and then
 // the totals. It holds a part of the input and a part of the output, in buffers that do not grow. Standard error gets what went wrong.
+#![tactic(auto)]
+
 ghost use Rattle.std.specs.Prelude.{◌+◌, ◌≤◌, ◌≡◌, true, length, take, drop};
 ghost use Rattle.std.proofs.lemmas.List.Edits.{sets};
 ghost use Rattle.capture.specs.Lines.{totals_line};
@@ -9,14 +11,15 @@ ghost use Rattle.report.specs.Program.{Fits, begun, moved_of, failed_of, Prints,
 
 use capture::{Flaw, form_errors, form_totals, is_flaw};
 use header::HOLD_SIZE;
-use libc::{STDERR_FILENO, STDIN_FILENO, STDOUT_FILENO};
 use octets::{minimum, saturating_add};
 use session::{Session, fresh_session};
+use std::io;
+use std::io::{Read, Stderr, Stdin, Stdout, Write};
 use transcript::{NextLine, Totals, next_line, report_line};
 
 // The session and the totals; the unread bytes, from start to end of the input buffer, and whether no more come; the bytes of output that
 // are not written yet; whether the input is over; the count of lines so far, and the flaw of the last; and whether a read failed, and a write.
-#[derive(Drop)]
+#[derive(Clone, Copy)]
 struct State {
     session: Session,
     totals: Totals,
@@ -54,6 +57,14 @@ fn begin() -> State
     }
 }
 
+// What a read or a write tells: how many bytes it moved, or -1 where it failed.
+fn told_by(result: io::Result<usize>) -> isize {
+    match result {
+        Ok(n) => minimum(n, 9223372036854775807) as isize,
+        Err(_) => -1,
+    }
+}
+
 // How many bytes a call of C's moved, of so many; none where it failed.
 fn moved(got: isize, most: usize) -> usize
     ensures { (result ≡ moved_of got most) × (result ≤ most) }
@@ -85,7 +96,7 @@ fn shift(s: &mut [u8], start: usize, n: usize)
 }
 
 // Reads more behind the unread bytes, for which there is room. Where nothing comes, the input has ended.
-fn read_more(p: State, input: &mut [u8]) -> State
+fn read_more(stdin: Stdin, p: State, input: &mut [u8]) -> State
     requires { Fits p × (length input.old ≡ 65536) × (p.end ≤ p.start + 4113) }
     ensures { ReadsMore p input.old result input.new }
 {
@@ -93,7 +104,8 @@ fn read_more(p: State, input: &mut [u8]) -> State
     let n = p.end - start;
     shift(input, start, n);
     let room = input.len() - n;
-    let told = libc::read(STDIN_FILENO, &mut input[n..]);
+    let mut source = stdin;
+    let told = told_by(source.read(&mut input[n..]));
     let got = moved(told, room);
     let mut next = p;
     next.start = 0;
@@ -104,12 +116,13 @@ fn read_more(p: State, input: &mut [u8]) -> State
 }
 
 // Writes all of s, or tells that a write failed. Which bytes a write takes, and whether it fails, is C's alone; for no bytes there is none.
-fn write_all(fd: i32, s: &[u8]) -> bool
+fn write_all<W: Write + Drop>(to: W, s: &[u8]) -> bool
     ensures { length s.now ≡ 0 → result ≡ true }
 {
+    let mut sink = to;
     let mut done: usize = 0;
     while done < s.len() {
-        let n = moved(libc::write(fd, &s[done..]), s.len() - done);
+        let n = moved(told_by(sink.write(&s[done..])), s.len() - done);
         if n == 0 {
             return false;
         }
@@ -119,14 +132,14 @@ fn write_all(fd: i32, s: &[u8]) -> bool
 }
 
 // Writes the output, where it leaves no room for that of another line. A write that fails ends the input.
-fn write_much(p: State, out: &[u8]) -> State
+fn write_much(stdout: Stdout, p: State, out: &[u8]) -> State
     requires { p.size ≤ length out.now }
     ensures { Writes p result }
 {
     let size = p.size;
     let mut next = p;
     if 22528 < size {
-        let failed = !write_all(STDOUT_FILENO, &out[..size]);
+        let failed = !write_all(stdout, &out[..size]);
         next.size = 0;
         next.over = p.over | failed;
         next.lost = p.lost | failed;
@@ -136,6 +149,7 @@ fn write_much(p: State, out: &[u8]) -> State
 
 // Reports the line of k bytes with which the unread bytes begin.
 fn print_line(
+    stdout: Stdout,
     p: State,
     k: usize,
     guest: &mut [u8],
@@ -176,11 +190,19 @@ fn print_line(
         cut: p.cut,
         lost: p.lost,
     };
-    write_much(next, out)
+    write_much(stdout, next, out)
 }
 
 // A line is reported, or more is read, or the input is over.
-fn step(p: State, guest: &mut [u8], host: &mut [u8], input: &mut [u8], out: &mut [u8]) -> State
+fn step(
+    stdin: Stdin,
+    stdout: Stdout,
+    p: State,
+    guest: &mut [u8],
+    host: &mut [u8],
+    input: &mut [u8],
+    out: &mut [u8],
+) -> State
     requires { Fits p × (length input.old ≡ 65536) × (length out.old ≡ 262144) }
     ensures { Steps (memory p guest.old host.old input.old out.old) (memory result guest.new host.new input.new out.new) }
 {
@@ -188,34 +210,41 @@ fn step(p: State, guest: &mut [u8], host: &mut [u8], input: &mut [u8], out: &mut
     let end = p.end;
     let n = next_line(&input[start..end], p.last);
     match n {
-        NextLine::LineEnd(k) => print_line(p, k, guest, host, input, out),
+        NextLine::LineEnd(k) => print_line(stdout, p, k, guest, host, input, out),
         NextLine::Wait => {
             if p.last {
                 let mut next = p;
                 next.over = true;
                 return next;
             }
-            read_more(p, input)
+            read_more(stdin, p, input)
         }
     }
 }
 
 // A proved loop has to end, and nothing says that the input does. So the loop counts its turns down, from a number that no run uses up.
-fn run(guest: &mut [u8], host: &mut [u8], input: &mut [u8], out: &mut [u8]) -> State
+fn run(
+    stdin: Stdin,
+    stdout: Stdout,
+    guest: &mut [u8],
+    host: &mut [u8],
+    input: &mut [u8],
+    out: &mut [u8],
+) -> State
     requires { (guest.old ≡ started.guest) × (host.old ≡ started.host) × (length input.old ≡ 65536) × (length out.old ≡ 262144) }
     ensures { Runs (beginning input.old out.old) (memory result guest.new host.new input.new out.new) }
 {
     let mut p = begin();
     let mut turns: u64 = 18446744073709551615;
     while (0 < turns) & !p.over {
-        p = step(p, guest, host, input, out);
+        p = step(stdin, stdout, p, guest, host, input, out);
         turns -= 1;
     }
     p
 }
 
 // Prints the totals behind the output that is not written yet, or tells that a write failed.
-fn print_totals(p: State, out: &mut [u8]) -> bool
+fn print_totals(stdout: Stdout, p: State, out: &mut [u8]) -> bool
     requires { Fits p × (length out.old ≡ 262144) }
     ensures { out.new ≡ sets out.old p.size (totals_line p.totals.passed p.totals.refused p.session.head.stopped) }
 {
@@ -224,21 +253,24 @@ fn print_totals(p: State, out: &mut [u8]) -> bool
     let head = session.head;
     let size = p.size;
     let n = form_totals(out, size, totals.passed, totals.refused, head.stopped);
-    write_all(STDOUT_FILENO, &out[..size + n])
+    write_all(stdout, &out[..size + n])
 }
 
 // Says on standard error what went wrong, if anything did.
-fn tell_errors(p: State, lost: bool, errors: &mut [u8])
+fn tell_errors(stderr: Stderr, p: State, lost: bool, errors: &mut [u8])
     requires { length errors.old ≡ 256 }
     ensures { errors.new ≡ sets errors.old 0 (error_lines p.lines p.flaw p.cut lost) }
 {
     let flaw = p.flaw;
     let n = form_errors(errors, p.lines, flaw, p.cut, lost);
-    write_all(STDERR_FILENO, &errors[..n]);
+    write_all(stderr, &errors[..n]);
 }
 
 // Reports the whole input.
 fn report_input(
+    stdin: Stdin,
+    stdout: Stdout,
+    stderr: Stderr,
     guest: &mut [u8],
     host: &mut [u8],
     input: &mut [u8],
@@ -248,16 +280,25 @@ fn report_input(
     requires { (guest.old ≡ started.guest) × (host.old ≡ started.host) × (length input.old ≡ 65536) × (length out.old ≡ 262144) × (length errors.old ≡ 256) }
     ensures { Reports input.old out.old errors.old guest.new host.new input.new out.new errors.new }
 {
-    let p = run(guest, host, input, out);
-    let written = print_totals(p, out);
-    tell_errors(p, p.lost | !written, errors);
+    let p = run(stdin, stdout, guest, host, input, out);
+    let written = print_totals(stdout, p, out);
+    tell_errors(stderr, p, p.lost | !written, errors);
 }
 
-fn main() {
+fn main(rt: HostRuntime) {
     let mut guest = [0u8; HOLD_SIZE];
     let mut host = [0u8; HOLD_SIZE];
     let mut input = [0u8; 65536];
     let mut out = [0u8; 262144];
     let mut errors = [0u8; 256];
-    report_input(&mut guest, &mut host, &mut input, &mut out, &mut errors);
+    report_input(
+        rt.stdin(),
+        rt.stdout(),
+        rt.stderr(),
+        &mut guest,
+        &mut host,
+        &mut input,
+        &mut out,
+        &mut errors,
+    );
 }

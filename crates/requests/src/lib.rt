@@ -1,4 +1,6 @@
 // The table of 96 places for requests that wait for their reply. The columns that are searched are lent; the slots have the rest.
+#![tactic(auto)]
+
 ghost use Rattle.std.specs.Prelude.{◌≡◌, false, cond, ◌&&◌, ◌||◌, ℕ, suc, ◌≤◌, drop, get_or, eqb, leb, ltb};
 ghost use Rattle.scan.specs.Scan.{exists, tabulated};
 ghost use Rattle.device.specs.Device.{touched};
@@ -12,7 +14,7 @@ use endpoint::Endpoint;
 pub const PLACES: usize = 96;
 
 // What is kept of a request; a packet that has no endpoint, interface or length gives 0 for it.
-#[derive(Drop)]
+#[derive(Clone, Copy)]
 pub struct Request {
     pub id: u64,
     pub kind: u8,
@@ -22,7 +24,7 @@ pub struct Request {
 }
 
 // What a place keeps of a request besides its id and kind.
-#[derive(Drop)]
+#[derive(Clone, Copy)]
 pub struct Slot {
     pub length: u32,
     // the endpoint or interface byte
@@ -30,7 +32,7 @@ pub struct Slot {
 }
 
 // The table in columns. From `fresh` on, all is zero where a place is free; what stands at `used` and above is not looked at.
-#[derive(Drop)]
+#[derive(Clone, Copy)]
 pub struct Requests {
     // live places lie below it; over 96 it reads as 96
     pub used: usize,
@@ -41,14 +43,14 @@ pub struct Requests {
 }
 
 // Which requests a reply answers: those of one of two kinds, and of the reply's own endpoint or interface where it has one.
-#[derive(Drop)]
+#[derive(Clone, Copy)]
 pub struct Answerable {
     pub first: u8,
     pub second: u8,
     pub targeted: bool,
 }
 
-#[derive(Drop)]
+#[derive(Clone, Copy)]
 pub enum FoundPlace {
     AtPlace(usize),
     NoPlace,

@@ -1,4 +1,6 @@
 // The wire checks 21 to 24 and 13 of one packet with its body: what each kind's rules say of its fields, and the number.
+#![tactic(auto)]
+
 ghost use Rattle.std.specs.Prelude.{◌≡◌, List, cond, not, ◌&&◌, ◌||◌, true, false, ℕ, ◌≤◌, ◌<◌, ◌/◌, ◌^◌, length, leb, eqb};
 ghost use Rattle.octets.specs.Little.{le};
 ghost use Rattle.octets.specs.Bits.{has_bit};
@@ -21,14 +23,14 @@ use packet::{
 };
 
 // Where the first field that breaks its rule starts in the body, 65,535 for the id; `None` where each keeps its own.
-#[derive(Drop)]
+#[derive(Clone, Copy)]
 enum Fault {
     None,
     At(u16),
 }
 
 // What the checks find of one packet under a shared set.
-#[derive(Drop)]
+#[derive(Clone, Copy)]
 struct Findings {
     // its kind's place in the table
     slot: usize,

@@ -1,4 +1,6 @@
 // The session: its record, what 43 tests of it, and a change made to it.
+#![tactic(auto)]
+
 ghost use Rattle.std.specs.Prelude.{◌≡◌, cond, ltb};
 ghost use Rattle.device.specs.declared.Rows.{Rows};
 ghost use Rattle.requests.specs.Requests.{places, no_request, released};
@@ -26,7 +28,7 @@ const MAX_HELD: usize = HOLD_SIZE - 1;
 
 // The head is small and changes often; the rows of the device and the table of requests are columns, which are lent. No check reads the
 // watch.
-#[derive(Drop)]
+#[derive(Clone, Copy)]
 pub struct Session {
     pub head: Head,
     pub rows: Rows,
@@ -35,7 +37,7 @@ pub struct Session {
 }
 
 // What a change does in one row, one place and one watch, where that is all of it; a wide change does more and is left to `apply`.
-#[derive(Drop)]
+#[derive(Clone, Copy)]
 pub struct Edit {
     // the row whose stream is set, 32 for none, and to what
     pub row: usize,

@@ -1,5 +1,7 @@
 // A script of reader calls, made one after the other on a fresh session: for hosts in other languages that test the gate, with plain
 // numbers and byte slices. It is not part of the product's interface.
+#![tactic(auto)]
+
 ghost use Rattle.std.specs.Prelude.{◌≡◌, ◌+◌, ◌≤◌, length};
 ghost use Rattle.std.proofs.lemmas.List.Edits.{sets};
 ghost use Rattle.test_drive.specs.Drive.{location_number, watch_bytes, base_of, Drives};
@@ -16,7 +18,7 @@ use session::{Session, apply, edit_of, fresh_session, has_wide_ids, hold_to, sto
 use watch::{IN_ROWS, Watch, note};
 
 // Where the part that a packet names stands among the packet's bytes, and the packet's id.
-#[derive(Drop)]
+#[derive(Clone, Copy)]
 struct Span {
     start: usize,
     end: usize,
@@ -101,8 +103,7 @@ pub fn base_of(from: Side, half: usize) -> usize
 // (4), size (4), where the data starts and ends among the packet's bytes (4, 4), id (8). Behind the last of them
 // is laid the watch after all calls, as far as the output goes.
 // The columns of the session are locals: what a call changes is stored in place, but for the rare changes that `apply` makes.
-#[unsafe(no_mangle)]
-pub extern "C" fn test_drive(script: &[u8], holds: &mut [u8], out: &mut [u8]) -> usize
+pub fn test_drive(script: &[u8], holds: &mut [u8], out: &mut [u8]) -> usize
     ensures { Drives script.now holds.old out.old holds.new out.new result }
 {
     let start = fresh_session();

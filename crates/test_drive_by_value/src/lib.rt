@@ -1,5 +1,7 @@
 // The script of reader calls that `test_drive` makes, made with the session by value, through `gate::offer`: for hosts in other languages that
 // test the gate. It is not part of the product's interface.
+#![tactic(auto)]
+
 ghost use Rattle.test_drive.specs.Drive.{Drives};
 
 use gate::offer;

@@ -71,15 +71,15 @@ front-counts caps (Iso x) = (refl, lit≤ tt)
 front-counts caps (Interrupt x) = (refl, lit≤ tt)
 front-counts caps (BufferedBulk x) = (refl, lit≤ tt)
 
-front_of : (caps id : ℕ) (p : Packet) (body : List ℕ) → front_of (content_of caps id p body) ≡ map single (shown_of caps p).front
+front_of_lem : (caps id : ℕ) (p : Packet) (body : List ℕ) → front_of (content_of caps id p body) ≡ map single (shown_of caps p).front
 unfolding content_of
-front_of caps id p body = take_at (map single (shown_of caps p).front) _ (length (front_fields (layout (shown_of caps p).kind))) (length-map (shown_of caps p).front single ∙ (front-counts caps p).0)
+front_of_lem caps id p body = take_at (map single (shown_of caps p).front) _ (length (front_fields (layout (shown_of caps p).kind))) (length-map (shown_of caps p).front single ∙ (front-counts caps p).0)
 
 numbers-front : (caps id : ℕ) (p : Packet) (body : List ℕ) (i : ℕ)
     → get_or (fields_of caps p).numbers i 0 ≡ get_or (map first_number (front_of (content_of caps id p body))) i 0
 numbers-front caps id p body i =
     let vs : List (Option ℕ) = (shown_of caps p).front in
-    padded-at 7 (map or_zero vs) i (rw (length-map vs or_zero) (front-counts caps p).1) ∙ rw (front_of caps id p body, ← numbers_of_lem vs)
+    padded-at 7 (map or_zero vs) i (rw (length-map vs or_zero) (front-counts caps p).1) ∙ rw (front_of_lem caps id p body, ← numbers_of_lem vs)
 
 -- ---- by function, with the link as the code has it
 

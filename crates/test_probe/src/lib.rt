@@ -1,5 +1,7 @@
 // What a host program in another language calls to test the library: plain numbers and byte slices.
 // A side is 0 for the guest, else the host. A hello is its first word, or 4,294,967,296 and more before it has passed.
+#![tactic(auto)]
+
 ghost use Rattle.std.specs.Prelude.{◌≡◌, get_or};
 ghost use Rattle.kinds.specs.Codec.{read_number};
 ghost use Rattle.packet.specs.Fields.{fields_of};

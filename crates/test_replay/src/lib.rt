@@ -1,5 +1,7 @@
 // Packets judged whole, one after the other, from a fresh session: for hosts in other languages that test the session. It is not the
 // gate: it holds nothing and never stops.
+#![tactic(auto)]
+
 ghost use Rattle.std.specs.Prelude.{◌≡◌, true};
 ghost use Rattle.std.proofs.Math.Option.{Option};
 ghost use Rattle.decoder.specs.Reading.{PacketTold};
@@ -18,7 +20,7 @@ use requests::slot_of;
 use session::{Session, apply, fresh_session, link_to};
 
 // The session after a packet, and the packet's number.
-#[derive(Drop)]
+#[derive(Clone, Copy)]
 struct Replayed {
     session: Session,
     number: u8,

@@ -1,4 +1,6 @@
 // The search of the request table by id, as the gate makes it, many times in a row: for a test host in another language that times it.
+#![tactic(auto)]
+
 ghost use Rattle.std.specs.Prelude.{◌≡◌};
 ghost use Rattle.requests.specs.Requests.{found_at};
 ghost use Rattle.test_search.specs.Search.{table_with, next_id, searched};

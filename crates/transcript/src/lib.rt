@@ -1,5 +1,7 @@
 // What a piece and an input line give in a report, and with which line unread input begins. A piece is offered until it is used up or the
 // session takes no more, and each answer has its line.
+#![tactic(auto)]
+
 ghost use Rattle.std.specs.Prelude.{◌≡◌};
 ghost use Rattle.gate.specs.Offer.{offer_of};
 ghost use Rattle.capture.specs.Lines.{line_of};
@@ -14,14 +16,14 @@ use octets::{part, saturating_add};
 use session::{Session, link_to};
 
 // The answers that have a line: passed, and refused.
-#[derive(Drop)]
+#[derive(Clone, Copy)]
 pub struct Totals {
     pub passed: usize,
     pub refused: usize,
 }
 
 // The session and the totals after a piece, and the bytes that its lines have.
-#[derive(Drop)]
+#[derive(Clone, Copy)]
 pub struct Reported {
     pub session: Session,
     pub totals: Totals,
@@ -29,21 +31,21 @@ pub struct Reported {
 }
 
 // The same after one call, and the bytes of the piece that are over.
-#[derive(Drop)]
+#[derive(Clone, Copy)]
 struct CallReported {
     reported: Reported,
     used: usize,
 }
 
 // The same after an input line, and its flaw.
-#[derive(Drop)]
+#[derive(Clone, Copy)]
 pub struct Lined {
     pub reported: Reported,
     pub flaw: Flaw,
 }
 
 // What unread input begins with: a line of so many bytes, without its newline; or what comes next has to decide.
-#[derive(Drop)]
+#[derive(Clone, Copy)]
 pub enum NextLine {
     LineEnd(usize),
     Wait,

@@ -1,5 +1,7 @@
 // The watch on stream packets: of each IN row the id that is expected next, how often another one came, and how far ahead of the expected
 // one the last of these lay.
+#![tactic(auto)]
+
 ghost use Rattle.std.specs.Prelude.{◌≡◌};
 ghost use Rattle.watch.specs.declared.Watch.{Watch};
 ghost use Rattle.watch.specs.Watch.{start_watch, index_of, watched_row, id_after, ahead, one_more, changed_at, seen_on, begun_on, forgotten, breaks_on, gap_on};
@@ -14,7 +16,7 @@ pub const IN_ROWS: usize = 16;
 const MAX_BREAKS: u16 = 65535;
 
 // A column for each thing that is kept of the IN rows; row 16 is the first.
-#[derive(Drop)]
+#[derive(Clone, Copy)]
 pub struct Watch {
     // the id that the next packet should have
     pub expected: [u64; IN_ROWS],

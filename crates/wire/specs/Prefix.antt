@@ -63,7 +63,7 @@ module _ (N : Wire) (W : WireLaws N) (k : N.K) where
             let d : List ℕ = drop (length a) e in
             let w : N.width k a ≤ length a = ltb-false (length a) (N.width k a) t in
             let x : e ≡ a ++ d = longer e s a r (sym q) (omega arith) in
-            let f : N.width k e ≡ N.width k a = ap (N.width k) x ∙ W.same_width_lem k a d (omega (arith, W.wide k a)) in
+            let f : N.width k e ≡ N.width k a = ap (N.width k) x ∙ W.same_width k a d (omega (arith, W.wide k a)) in
             let l : N.length_of e ≡ N.length_of a = ap N.length_of x ∙ W.same_length k a d w in
             let z : N.head_no k a ≡ 0 = sym (ap (N.head_no k) x ∙ W.same_number k a d w) ∙ g.header in
             let n : length a < N.width k a + N.length_of a = omega (arith, g.size) in
@@ -77,7 +77,7 @@ module _ (N : Wire) (W : WireLaws N) (k : N.K) where
         let d : List ℕ = drop (length e) a in
         let v : N.width k e ≤ length e = omega (arith, g.size) in
         let x : a ≡ e ++ d = longer a r e s q h in
-        let f : N.width k a ≡ N.width k e = ap (N.width k) x ∙ W.same_width_lem k e d (long p g) in
+        let f : N.width k a ≡ N.width k e = ap (N.width k) x ∙ W.same_width k e d (long p g) in
         let l : N.length_of a ≡ N.length_of e = ap N.length_of x ∙ W.same_length k e d v in
         let z : N.head_no k a ≡ 0 = ap (N.head_no k) x ∙ W.same_number k e d v ∙ g.header in
         let w : N.width k a ≤ length a = omega arith in

@@ -95,10 +95,10 @@ module _ (N : Wire) (W : WireLaws N) (k : N.K) where
         ]
       where
         long : IsWhole N k (a ++ r) n → 12 ≤ length a → IsMore N k a → length a < n
-        long w h (inl l) = omega (arith, w.size, W.same_width_lem k a r h)
+        long w h (inl l) = omega (arith, w.size, W.same_width k a r h)
         long w h (inr l) = elim (dec_lt (length a) (N.width k a)) [
-          | yes g ↦ omega (arith, w.size, W.same_width_lem k a r h)
-          | no g ↦ omega (arith, w.size, W.same_width_lem k a r h, W.same_length k a r (omega arith), l.1)
+          | yes g ↦ omega (arith, w.size, W.same_width k a r h)
+          | no g ↦ omega (arith, w.size, W.same_width k a r h, W.same_length k a r (omega arith), l.1)
         ]
 
     -- with r behind them they are a header that is refused
@@ -111,9 +111,9 @@ module _ (N : Wire) (W : WireLaws N) (k : N.K) where
         ]
       where
         long : IsBad N k (a ++ r) n → 12 ≤ length a → IsMore N k a → length a < N.width k (a ++ r)
-        long w h (inl l) = omega (arith, W.same_width_lem k a r h)
+        long w h (inl l) = omega (arith, W.same_width k a r h)
         long w h (inr l) = elim (dec_lt (length a) (N.width k a)) [
-          | yes g ↦ omega (arith, W.same_width_lem k a r h)
+          | yes g ↦ omega (arith, W.same_width k a r h)
           | no g ↦ absurd (w.refused (sym w.number ∙ W.same_number k a r (omega arith) ∙ l.0))
         ]
 
@@ -125,7 +125,7 @@ module _ (N : Wire) (W : WireLaws N) (k : N.K) where
         let w : 12 ≤ length a = omega (arith, b.there, W.wide k a) in
         let q : N.head_no k (a ++ r) ≡ n = W.same_number k a r b.there ∙ b.number in
         by_tests N k (a ++ r) (λ c. c ≡ bad n)
-        (λ h. absurd (omega (arith, h, b.there, W.same_width_lem k a r w, length-append a r)))
+        (λ h. absurd (omega (arith, h, b.there, W.same_width k a r w, length-append a r)))
         (λ _ _. ap bad q)
         (λ z _. absurd (b.refused (sym q ∙ z)))
         (λ z _. absurd (b.refused (sym q ∙ z)))
@@ -136,9 +136,9 @@ module _ (N : Wire) (W : WireLaws N) (k : N.K) where
         let w : 12 ≤ length a = omega (arith, b.there, b.size, W.wide k a) in
         let h : N.width k a ≤ length a = omega (arith, b.there, b.size) in
         let q : N.head_no k (a ++ r) ≡ 0 = W.same_number k a r h ∙ b.header in
-        let m : N.width k (a ++ r) + N.length_of (a ++ r) ≡ n = omega (arith, b.size, W.same_width_lem k a r w, W.same_length k a r h) in
+        let m : N.width k (a ++ r) + N.length_of (a ++ r) ≡ n = omega (arith, b.size, W.same_width k a r w, W.same_length k a r h) in
         by_tests N k (a ++ r) (λ c. c ≡ whole n)
-        (λ g. absurd (omega (arith, g, h, W.same_width_lem k a r w, length-append a r)))
+        (λ g. absurd (omega (arith, g, h, W.same_width k a r w, length-append a r)))
         (λ _ z. absurd (z q))
         (λ _ g. absurd (omega (arith, g, m, b.there, length-append a r)))
         (λ _ _. ap whole m)

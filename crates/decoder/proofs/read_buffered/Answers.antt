@@ -1,0 +1,32 @@
+-- `decoder::read_buffered` meets its contract: a body that lacks a field has the number of a wrong size (`WrongSize`), and any other is read as the table
+-- reads it (`WithData`), so that its packet has the body's number (`Told`).
+-- Assumes nothing.
+use lib.Dec.{lit<}
+use borrow.Author.Rules.{rules}
+use Rattle.kinds.specs.Table.{kinds}
+use Rattle.decoder.proofs.Told.{size-refused, packet-read}
+use Rattle.decoder.proofs.WithData.{buffered-bulk}
+use Rattle.decoder.proofs.WrongSize.{lacks}
+use Rattle.decoder.proofs.read_buffered.Goals as goal
+
+pub returns-then-body-lt10 : goal.returns-then-body-lt10
+unfolding kinds
+returns-then-body-lt10 c =
+    let a = c.args in
+    let m = c.size_number.ensures in
+    size-refused a.l a.h m.0 (lacks a.l 32 a.h.id a.body.now (lit< tt) m.1 c.if-body-lt10.true)
+
+pub returns : goal.returns
+returns c =
+    let a = c.args in
+    rw c.finish.ensures
+    (packet-read a.l a.h
+    (rw (
+      c.after-payload.ensures,
+      c.get8-status.ensures,
+      c.get8.ensures,
+      c.get32-length.ensures,
+      c.get32-stream.ensures,
+    )
+    (buffered-bulk _ _ c.if-body-lt10.false))
+    c.buffered_number.ensures)

@@ -1,0 +1,11 @@
+-- `requests::clear` meets its contract: the flags are those of its test (`flags-told`).
+-- Assumes nothing.
+use mathlib.Core.Path.{◌∙◌}
+use borrow.Author.Rules.{rules}
+use Rattle.requests.specs.Requests.{cleared}
+use Rattle.requests.proofs.Loops.{flags-told}
+use Rattle.requests.proofs.clear.Goals as goal
+
+pub returns : goal.returns
+unfolding cleared
+returns c = c.free_these.ensures ∙ flags-told _ _ _ c.living.ensures
