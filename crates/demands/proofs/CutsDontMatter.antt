@@ -25,7 +25,8 @@ use Rattle.kinds.specs.Codec.{decode, read_number}
 use Rattle.frame.specs.Cut.{Cut, more, bad, whole, cut_of}
 use Rattle.frame.specs.Frame.{cut_at, completed, head_size, head_number}
 use Rattle.wire.specs.Usbredir.{usbredir}
-use Rattle.wire.specs.Told.{IsBad, bad-is, whole_is, IsWhole}
+use Rattle.wire.specs.Told.{IsBad, IsWhole}
+use Rattle.wire.proofs.Told.{bad-is, whole_is}
 use Rattle.decoder.specs.Reading.{read_of}
 use Rattle.events.specs.Meaning.{Class, Hello, Connect, Interfaces, Endpoints, Disconnect, Reset, Ack, Cancel, Filter, StartRequest, PlainRequest, StreamStatus, PlainReply, StreamOut, StreamIn}
 use Rattle.events.specs.Event.{Event, event_of}

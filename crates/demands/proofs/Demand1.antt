@@ -20,7 +20,8 @@ use Rattle.kinds.proofs.RoundTrip.{both_zero}
 use Rattle.frame.specs.Cut.{Cut, more, bad, whole}
 use Rattle.frame.specs.Frame.{cut_at, head_size}
 use Rattle.wire.specs.Usbredir.{usbredir}
-use Rattle.wire.specs.Told.{IsBad, bad-is}
+use Rattle.wire.specs.Told.{IsBad}
+use Rattle.wire.proofs.Told.{bad-is}
 use Rattle.events.specs.Event.{event_of}
 use Rattle.session.specs.declared.Session.{Session}
 use Rattle.session.specs.Session.{link_of, unfit}

@@ -23,7 +23,7 @@ use Rattle.kinds.proofs.RoundTrip.{both_zero}
 use Rattle.frame.specs.Cut.{Cut, more, bad, whole}
 use Rattle.frame.specs.Frame.{cut_at}
 use Rattle.wire.specs.Usbredir.{usbredir}
-use Rattle.wire.specs.Told.{bad-is}
+use Rattle.wire.proofs.Told.{bad-is}
 use Rattle.events.specs.Event.{event_of}
 use Rattle.checks.specs.Checks.{first_of}
 use Rattle.session.specs.declared.Session.{Session}

@@ -23,10 +23,11 @@ use Rattle.kinds.specs.Codec.{decode, read_number, encode, packet_number, write_
 use Rattle.kinds.proofs.RoundTrip.{both_zero}
 use Rattle.frame.specs.Cut.{more, whole}
 use Rattle.frame.specs.Frame.{cut_at, completed}
-use Rattle.wire.specs.Usbredir.{usbredir, laws, unshared-number, unsuited-number}
+use Rattle.wire.specs.Usbredir.{usbredir}
+use Rattle.wire.proofs.Usbredir.{laws, unshared-number, unsuited-number}
 use Rattle.wire.specs.Wire.{OneOf}
 use Rattle.wire.specs.Reader.{comes_out, Kept, Stopped, Part, Full, Open, ReaderLaws, WriterLaws}
-use Rattle.wire.specs.Demand3.{demand3}
+use Rattle.wire.proofs.Demand3.{demand3}
 use Rattle.decoder.specs.Reading.{read_of}
 use Rattle.events.specs.Event.{event_of}
 use Rattle.session.specs.declared.Session.{Session}

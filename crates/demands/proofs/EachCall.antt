@@ -26,8 +26,10 @@ use Rattle.kinds.specs.Codec.{decode, read_number, content_at, encode, or_next, 
 use Rattle.kinds.specs.Number.{kind_number, wire_number, is_none, surplus, wide_id, size_ok, bad as bad-place, streams_alone, in_order, by_kind}
 use Rattle.frame.specs.Cut.{Cut, more, bad, whole}
 use Rattle.frame.specs.Frame.{cut_at, completed, head_size, location_for}
-use Rattle.wire.specs.Usbredir.{usbredir, laws, hello-fields}
-use Rattle.wire.specs.Told.{IsBad, bad-is, whole_is, whole-fits}
+use Rattle.wire.specs.Usbredir.{usbredir}
+use Rattle.wire.proofs.Usbredir.{laws, hello-fields}
+use Rattle.wire.specs.Told.{IsBad}
+use Rattle.wire.proofs.Told.{bad-is, whole_is, whole-fits}
 use Rattle.decoder.specs.Reading.{PacketTold}
 use Rattle.events.specs.Event.{event_of}
 use Rattle.session.specs.declared.Session.{Session}

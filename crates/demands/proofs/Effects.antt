@@ -15,7 +15,8 @@ use Rattle.claims.specs.Movements.{Moved}
 use Rattle.claims.proofs.Movements.{moves}
 use Rattle.claims.specs.Watched.{WatchMoved}
 use Rattle.claims.proofs.Watched.{watch-moves}
-use Rattle.wire.specs.Told.{IsWhole, whole_is}
+use Rattle.wire.specs.Told.{IsWhole}
+use Rattle.wire.proofs.Told.{whole_is}
 use Rattle.wire.specs.Usbredir.{usbredir}
 use Rattle.gate.specs.Verdict.{held_as}
 use Rattle.gate.specs.Offer.{Outcome, offer_of}

@@ -31,8 +31,9 @@ use Rattle.kinds.specs.Codec.{decode, read_number}
 use Rattle.kinds.specs.Number.{wire_number}
 use Rattle.frame.specs.Cut.{Cut, more, bad, whole, cut_of}
 use Rattle.frame.specs.Frame.{cut_at, completed}
-use Rattle.wire.specs.Prefix.{cut-none}
-use Rattle.wire.specs.Usbredir.{usbredir, laws}
+use Rattle.wire.proofs.Prefix.{cut-none}
+use Rattle.wire.specs.Usbredir.{usbredir}
+use Rattle.wire.proofs.Usbredir.{laws}
 use Rattle.events.specs.Event.{Event, event_of}
 use Rattle.session.specs.declared.Session.{Session}
 use Rattle.session.specs.Session.{fresh_session, link_of, unfit}

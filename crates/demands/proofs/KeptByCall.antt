@@ -25,8 +25,10 @@ use Rattle.kinds.specs.Codec.{decode, read_number}
 use Rattle.kinds.specs.Number.{wire_number}
 use Rattle.frame.specs.Cut.{Cut, more, bad, whole}
 use Rattle.frame.specs.Frame.{cut_at, head_size, head_number}
-use Rattle.wire.specs.Usbredir.{usbredir, laws}
-use Rattle.wire.specs.Told.{whole_is, IsWhole}
+use Rattle.wire.specs.Usbredir.{usbredir}
+use Rattle.wire.proofs.Usbredir.{laws}
+use Rattle.wire.specs.Told.{IsWhole}
+use Rattle.wire.proofs.Told.{whole_is}
 use Rattle.events.specs.Event.{Event, event_of}
 use Rattle.session.specs.declared.Session.{Session}
 use Rattle.session.specs.Session.{link_of}

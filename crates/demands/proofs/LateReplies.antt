@@ -22,7 +22,8 @@ use Rattle.kinds.specs.Number.{wire_number}
 use Rattle.frame.specs.Cut.{Cut, more, bad, whole}
 use Rattle.frame.specs.Frame.{cut_at}
 use Rattle.wire.specs.Usbredir.{usbredir}
-use Rattle.wire.specs.Told.{IsBad, bad-is}
+use Rattle.wire.specs.Told.{IsBad}
+use Rattle.wire.proofs.Told.{bad-is}
 use Rattle.wire.specs.Reader.{comes_out}
 use Rattle.events.specs.Event.{event_of}
 use Rattle.session.specs.declared.Session.{Session}

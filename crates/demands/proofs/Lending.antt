@@ -22,7 +22,8 @@ use Rattle.kinds.specs.Codec.{layout, decode, read_number}
 use Rattle.frame.specs.Cut.{Cut, more, bad, whole}
 use Rattle.frame.specs.Frame.{cut_at, head_size, bytes_at}
 use Rattle.wire.specs.Usbredir.{usbredir}
-use Rattle.wire.specs.Told.{whole_is, IsWhole}
+use Rattle.wire.specs.Told.{IsWhole}
+use Rattle.wire.proofs.Told.{whole_is}
 use Rattle.packet.specs.Rows.{interface_row, endpoint_row}
 use Rattle.packet.specs.declared.Part.{Part}
 use Rattle.packet.specs.Packet.{in_part, content_of}

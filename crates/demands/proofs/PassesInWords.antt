@@ -34,7 +34,8 @@ use Rattle.claims.specs.NumberByKind.{checks_by}
 use Rattle.claims.proofs.Allowed.{numbered}
 use Rattle.frame.specs.Cut.{more, whole, cut_of}
 use Rattle.frame.specs.Frame.{head_size, head_number, cut_at, is_more}
-use Rattle.wire.specs.Told.{IsWhole, whole_is}
+use Rattle.wire.specs.Told.{IsWhole}
+use Rattle.wire.proofs.Told.{whole_is}
 use Rattle.wire.specs.Usbredir.{usbredir}
 use Rattle.gate.specs.Verdict.{held_as}
 use Rattle.gate.specs.Offer.{held_bytes, is_waiting, Outcome, offer_of}

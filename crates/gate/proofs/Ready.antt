@@ -26,8 +26,10 @@ use Rattle.requests.specs.Requests.{ids_differ}
 use Rattle.session.specs.declared.Session.{Session}
 use Rattle.session.specs.Session.{max_held, link_of, held_bad, unfit}
 use Rattle.frame.specs.Cut.{Cut, more, bad, whole}
-use Rattle.wire.specs.Told.{IsWhole, whole_is, IsBad, bad-is, more-short, whole-fits, more-less, more-head, bad-stays, whole-stays}
-use Rattle.wire.specs.Usbredir.{usbredir, laws}
+use Rattle.wire.specs.Told.{IsWhole, IsBad}
+use Rattle.wire.proofs.Told.{whole_is, bad-is, more-short, whole-fits, more-less, more-head, bad-stays, whole-stays}
+use Rattle.wire.specs.Usbredir.{usbredir}
+use Rattle.wire.proofs.Usbredir.{laws}
 use Rattle.frame.specs.Frame.{head_size, cut_at, cut_told, cut_for, ends_within, is_more, completed, location_for, bytes_at}
 use Rattle.gate.specs.Offer.{held_bytes, is_waiting, held_whole, barred, WholeHere}
 use Rattle.gate.specs.Verdict.{held_of}

@@ -17,8 +17,9 @@ use Rattle.header.specs.declared.Link.{Link}
 use Rattle.session.specs.declared.Session.{Session}
 use Rattle.session.specs.Session.{max_held, link_of, unfit}
 use Rattle.frame.specs.Cut.{Cut, more, bad, whole}
-use Rattle.wire.specs.Told.{more-less, more-head}
-use Rattle.wire.specs.Usbredir.{usbredir, laws}
+use Rattle.wire.proofs.Told.{more-less, more-head}
+use Rattle.wire.specs.Usbredir.{usbredir}
+use Rattle.wire.proofs.Usbredir.{laws}
 use Rattle.frame.specs.Frame.{cut_at, bytes_at}
 use Rattle.gate.specs.Verdict.{held_of}
 use Rattle.gate.specs.Offer.{held_bytes, is_waiting, held_whole, barred, Outcome, unmoved, by_cut, offer_of}

@@ -3,8 +3,9 @@
 -- Assumes nothing.
 use mathlib.Core.Path.{refl}
 use native.Mathlib.Omega.{arith}
-use Rattle.wire.specs.Told.{whole-fits}
-use Rattle.wire.specs.Usbredir.{usbredir, laws}
+use Rattle.wire.proofs.Told.{whole-fits}
+use Rattle.wire.specs.Usbredir.{usbredir}
+use Rattle.wire.proofs.Usbredir.{laws}
 use Rattle.gate.proofs.Deciding.{lending, whole_is, barred-decides, is-ready, keeps, more-decides, header-decides, cuts}
 use borrow.Author.Rules.{rules}
 use Rattle.gate.proofs.decide.Goals as goal

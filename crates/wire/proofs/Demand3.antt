@@ -11,9 +11,10 @@ use Rattle.std.proofs.Math.ListN.{length}
 use Rattle.std.proofs.Math.Dec.{eqb}
 use borrow.Author.Tests.{eqb-true}
 use Rattle.wire.specs.Wire.{Wire, WireLaws}
-use Rattle.wire.specs.Prefix.{all_bytes, AllAccepted, begins, apart}
+use Rattle.wire.specs.Prefix.{all_bytes, AllAccepted}
+use Rattle.wire.proofs.Prefix.{begins, apart}
 use Rattle.wire.specs.Reader.{Reader, ReaderLaws, Writer, WriterLaws, Call, Step, run, outs, taken, Cuts, within, Steady, AllAbsent, accepted, joined, Start, Read, Demand3}
-use Rattle.wire.specs.Calls.{Shown, begun-none, runs}
+use Rattle.wire.proofs.Calls.{Shown, begun-none, runs}
 
 module _ (N : Wire) (W : WireLaws N) (k : N.K) where
   -- no packet within n bytes of accepted ones has a field that is not shared

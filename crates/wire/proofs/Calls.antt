@@ -17,7 +17,8 @@ use Rattle.std.proofs.Math.Seq.{drop-append_seam, take-append-add, drop-append-a
 use Rattle.std.proofs.lemmas.Bool.{lt-leb}
 use Rattle.frame.specs.Cut.{more}
 use Rattle.wire.specs.Wire.{Wire, Good, WireLaws, cut}
-use Rattle.wire.specs.Prefix.{all_bytes, AllAccepted, front, cut-none, cut-more, cut-whole, long, fits}
+use Rattle.wire.specs.Prefix.{all_bytes, AllAccepted}
+use Rattle.wire.proofs.Prefix.{front, cut-none, cut-more, cut-whole, long, fits}
 use Rattle.wire.specs.Reader.{Reader, Kept, Stopped, Part, Full, Open, ReaderLaws, Call, this-way, other_way, Step, run, comes_out, outs, taken, Cuts, within, left, Steady}
 
 -- ---- lists
