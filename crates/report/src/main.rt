@@ -58,8 +58,8 @@ fn begin() -> State
 }
 
 // What a read or a write tells: how many bytes it moved, or -1 where it failed.
-fn told_by(result: io::Result<usize>) -> isize {
-    match result {
+fn told_by(outcome: io::Result<usize>) -> isize {
+    match outcome {
         Ok(n) => minimum(n, 9223372036854775807) as isize,
         Err(_) => -1,
     }

@@ -11,8 +11,7 @@ pub loop-i-init : goal.loop-i-init
 loop-i-init c = (omega arith, none-laid _ _)
 
 pub loop-i-preserved : goal.loop-i-preserved
-loop-i-preserved c =
-    (
-      omega (arith, c.loop-i-test.true),
-      row_laid c.args.w _ c.loop-i.i c.loop-i.invariant.1 c.put.ensures c.put-in-loop-i.ensures c.put-in-loop-i-2.ensures,
-    )
+loop-i-preserved c = (
+  omega (arith, c.loop-i-test.true),
+  row_laid c.args.w _ c.loop-i.i c.loop-i.invariant.1 c.put.ensures c.put-in-loop-i.ensures c.put-in-loop-i-2.ensures,
+)
