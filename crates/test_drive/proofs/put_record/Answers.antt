@@ -1,7 +1,6 @@
 -- `test_drive::put_record` meets its contract: seven numbers, each behind the one before it, in the part that is lent.
 -- Assumes nothing.
 use Rattle.test_drive.proofs.Records.{answer-laid, record-back}
-use Rattle.std.proofs.Common.{rules}
 use Rattle.test_drive.proofs.put_record.Goals as goal
 
 pub returns : goal.returns

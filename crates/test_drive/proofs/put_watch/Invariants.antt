@@ -1,10 +1,9 @@
 -- `test_drive::put_watch` meets its contract: the rows so far are laid, and each turn lays one more (`row_laid`).
 -- Assumes nothing.
-use Rattle.std.proofs.Common.{◌≡◌, ◌-◌, ◌≤◌, length, refl, ap, ◌∙◌, arith, rules}
-use lib.Seq.{sets, length-sets}
+use Rattle.std.proofs.Common.{◌≡◌, ◌-◌, ◌≤◌}
+use lib.Seq.{sets}
 use Rattle.watch.specs.Watch.{in_rows}
 use Rattle.test_drive.specs.Drive.{rows_bytes}
-use Rattle.test_drive.proofs.WatchBytes.{none-laid, row_laid}
 use Rattle.test_drive.proofs.put_watch.Given as goal
 
 abbrev pub invariant-loop-i : goal.invariant-loop-i

@@ -1,23 +1,7 @@
 -- `test_drive::test_drive` meets its contract: what is still to come, after what is done, gives what all of the script gives.
 -- Assumes nothing.
-use Rattle.std.proofs.Common.{◌≡◌, ℕ, ◌+◌, ◌-◌, ◌*◌, ◌/◌, ◌^◌, ◌<◌, ◌≤◌, List, length, get_or, set, sym, refl, ap, ◌∙◌, ⊎_elim, arith, rules}
-use lib.ListN.{get_or-eq_default}
-use borrow.Author.Rules.{part_to_end}
-use borrow.Rule.Slice.PartMut.{mid_of, same_len_mid}
-use borrow.Author.Rules.{length_unmapped}
-use Rattle.octets.proofs.Integers.{drop-take}
-use Rattle.scan.specs.Loop.{long_of}
-use Rattle.requests.specs.declared.Slot.{Slot}
-use Rattle.requests.specs.Requests.{free_slot, slot_of}
-use Rattle.session.specs.declared.Session.{Session}
-use Rattle.watch.proofs.Noted.{Long}
-use Rattle.session.proofs.Stored.{Sized, placed, unplaced}
-use Rattle.gate.proofs.Settled.{settled_is}
-use Rattle.test_drive.specs.Drive.{watch_bytes, half_of}
-use Rattle.test_drive.proofs.RecordBytes.{laid-back}
-use Rattle.test_drive.proofs.WatchBytes.{rest_back}
-use Rattle.test_drive.proofs.ScriptRuns.{half-within, drive-goes-on, drive-short, drive-full}
-use Rattle.test_drive.proofs.Columns.{session_of, Leaves, wide-leaves, narrow-leaves, Keeping, keeping-starts}
+use Rattle.std.proofs.Common.{◌-◌, ◌/◌, length}
+use Rattle.test_drive.proofs.Columns.{session_of, Keeping}
 use Rattle.test_drive.proofs.test_drive.Given as goal
 
 abbrev pub invariant-loop-k : goal.invariant-loop-k
