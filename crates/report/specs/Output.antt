@@ -128,7 +128,9 @@ module _ {m n : Memory} (f : Fits m.state) (lo : length m.out ≡ 262144) (more 
       let g = line_step p k m.guest m.host m.input in
       let (line, rest) = line_first m n e q i in
       let first : output_from (progress_of m) (lines_of (b ++ more)) ≡ g.prints ++ to_come g.bad n more
-      = first-line (progress_of m) more b p.last e (λ t. none-behind (q.last ∙ t)) ∙ rw (line, rest, q.next) in
+      = first-line (progress_of m) more b p.last e (λ t. none-behind (q.last ∙ t))
+      ∙ rw (line, rest)
+      (ap (λ (x : Progress). g.prints ++ cond g.bad (totals_of x) (output_from x (lines_of (unread n.state n.input ++ more)))) (sym q.next)) in
       let laid : take (size_with p k m.guest m.host m.input) n.out ≡ pending m ++ g.prints
       = rw q.output (take-sets m.out g.prints p.size (omega (arith, lo, f.room, prints-short (progress_of m) (take k (drop p.start m.input))))) in
       rw (first, laid, append_assoc (pending m) g.prints (to_come g.bad n more))

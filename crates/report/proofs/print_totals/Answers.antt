@@ -19,12 +19,12 @@ pub slice_bounds-write_all-end : goal.slice_bounds-write_all-end
 slice_bounds-write_all-end c =
     let short : c.form_totals-n.result ≤ 117 = let a = c.args in
     omega (arith, c.form_totals-n.ensures.size, totals-short a.p.totals.passed a.p.totals.refused a.p.session.head.stopped) in
-    let room : c.args.p.size + c.form_totals-n.result ≤ length c.form_totals-n.new.0 = omega (arith, short, c.form_totals-n.auto.0, c.requires.0.room, c.requires.1) in
+    let room : c.args.p.size + c.form_totals-n.result ≤ length c.form_totals-n.new.out = omega (arith, short, c.form_totals-n.auto.out, c.requires.0.room, c.requires.1) in
     room
 
 pub slice_bounds-write_all-end-2 : goal.slice_bounds-write_all-end-2
 slice_bounds-write_all-end-2 c =
     let short : c.form_totals-n.result ≤ 117 = let a = c.args in
     omega (arith, c.form_totals-n.ensures.size, totals-short a.p.totals.passed a.p.totals.refused a.p.session.head.stopped) in
-    let room : c.args.p.size + c.form_totals-n.result ≤ length c.form_totals-n.new.0 = omega (arith, short, c.form_totals-n.auto.0, c.requires.0.room, c.requires.1) in
+    let room : c.args.p.size + c.form_totals-n.result ≤ length c.form_totals-n.new.out = omega (arith, short, c.form_totals-n.auto.out, c.requires.0.room, c.requires.1) in
     sym (length-take-le _ _ (room))

@@ -17,8 +17,8 @@ returns c =
     record {
       fits = search rules;
       state = refl;
-      kept = shift-keeps c.args.input.now c.read.new.1.0 p.start (p.end - p.start) c.moved-got.result h c.shift.ensures;
+      kept = shift-keeps c.args.input.now c.read.new.buf p.start (p.end - p.start) c.moved-got.result h c.shift.ensures;
       more = omega arith;
       last = none_came (p.end - p.start) c.moved-got.result;
-      cut = failed-none (to_z w64 (of_z w64 c.read.result)) _ c.moved-got.ensures.0 c.failed.ensures;
+      cut = failed-none (to_z w64 (of_z w64 c.told_by-told.result)) _ c.moved-got.ensures.0 c.failed.ensures;
     }

@@ -17,7 +17,7 @@ use Rattle.report.proofs.run.Given as goal
 
 abbrev pub invariant-loop-turns : goal.invariant-loop-turns
 invariant-loop-turns l =
-    Turns (beginning l.initial.guest l.initial.host) (memory l.guest l.p l.turns l.stdin l.stdout) (18446744073709551615 - l.host) × Fits l.guest × (l.host ≤ 18446744073709551615) × (length l.p ≡ length l.initial.stdin) × (length l.turns ≡ length l.initial.stdout) × (length l.stdin ≡ length l.initial.guest) × (length l.stdout ≡ length l.initial.host)
+    Turns (beginning l.initial.input l.initial.out) (memory l.p l.guest l.host l.input l.out) (18446744073709551615 - l.turns) × Fits l.p × (l.turns ≤ 18446744073709551615) × (length l.guest ≡ length l.initial.guest) × (length l.host ≡ length l.initial.host) × (length l.input ≡ length l.initial.input) × (length l.out ≡ length l.initial.out)
 
 abbrev pub decreases-loop-turns : goal.decreases-loop-turns
-decreases-loop-turns l = l.host
+decreases-loop-turns l = l.turns

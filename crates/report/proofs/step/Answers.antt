@@ -15,10 +15,10 @@ pub print_line-requires : goal.print_line-requires
 print_line-requires c =
     let begins : next_of (unread c.args.p c.args.input.now) c.args.p.last ≡ LineEnd c.in-LineEnd.k = sym c.next_line-n.ensures ∙ c.in-LineEnd.is in
     let p = c.args.p in
-    let h = line-within c.args.input.now p.start (p.end - p.start) c.in-LineEnd.k p.last (begins c) in
+    let h = line-within c.args.input.now p.start (p.end - p.start) c.in-LineEnd.k p.last begins in
     (c.requires.0, c.requires.1, c.requires.2, omega (arith, c.requires.0.order, h))
 
 pub returns-in-LineEnd : goal.returns-in-LineEnd
 returns-in-LineEnd c =
     let begins : next_of (unread c.args.p c.args.input.now) c.args.p.last ≡ LineEnd c.in-LineEnd.k = sym c.next_line-n.ensures ∙ c.in-LineEnd.is in
-    step_line (begins c) c.print_line.ensures refl
+    step_line begins c.print_line.ensures refl

@@ -11,12 +11,12 @@ use Rattle.report.proofs.tell_errors.Goals as goal
 
 pub slice_bounds-write_all-end : goal.slice_bounds-write_all-end
 slice_bounds-write_all-end c =
-    let room : c.form_errors-n.result ≤ length c.form_errors-n.new.0 = let a = c.args in
-    omega (arith, c.form_errors-n.ensures.size, errors-short a.p.lines a.p.flaw a.p.cut a.lost, c.form_errors-n.auto.0, c.requires) in
+    let room : c.form_errors-n.result ≤ length c.form_errors-n.new.out = let a = c.args in
+    omega (arith, c.form_errors-n.ensures.size, errors-short a.p.lines a.p.flaw a.p.cut a.lost, c.form_errors-n.auto.out, c.requires) in
     room
 
 pub slice_bounds-write_all-end-2 : goal.slice_bounds-write_all-end-2
 slice_bounds-write_all-end-2 c =
-    let room : c.form_errors-n.result ≤ length c.form_errors-n.new.0 = let a = c.args in
-    omega (arith, c.form_errors-n.ensures.size, errors-short a.p.lines a.p.flaw a.p.cut a.lost, c.form_errors-n.auto.0, c.requires) in
+    let room : c.form_errors-n.result ≤ length c.form_errors-n.new.out = let a = c.args in
+    omega (arith, c.form_errors-n.ensures.size, errors-short a.p.lines a.p.flaw a.p.cut a.lost, c.form_errors-n.auto.out, c.requires) in
     sym (length-take-le _ _ (room))

@@ -8,7 +8,7 @@ use lib.ListN.{length}
 use Rattle.report.proofs.write_all.Given as goal
 
 abbrev pub invariant-loop-done : goal.invariant-loop-done
-invariant-loop-done l = l.done ≤ length l.sink
+invariant-loop-done g l = l.done ≤ length l.s
 
 abbrev pub decreases-loop-done : goal.decreases-loop-done
-decreases-loop-done l = length l.sink - l.done
+decreases-loop-done g l = length l.s - l.done

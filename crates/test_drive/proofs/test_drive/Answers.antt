@@ -45,12 +45,12 @@ loop-k-preserved c =
     let as_long : length after ≡ length lent = c.decide-d.auto.hold in
     let s : Session = session_of l.h l.types l.interfaces l.streams l.used l.live l.kinds l.ids l.slots l.expected l.gaps l.breaks in
     let slot_is : c.if-wait-lt-PLACES.slot ≡ get_or l.slots c.wanted-wait.result free_slot =
-        elim c.if-wait-lt-PLACES.branch [
-          then-wait-lt-PLACES w ↦ w.slot-is
-          | else-wait-lt-PLACES w ↦
-            w.slot-is ∙ w.free_slot-slot.ensures
-            ∙ sym (get_or-eq_default l.slots free_slot {n = c.wanted-wait.result} (omega (arith, w.if-wait-lt-PLACES.false, l.invariant.sized.slots)))
-        ] in
+    elim c.if-wait-lt-PLACES.branch [
+      | then-wait-lt-PLACES w ↦ w.slot-is
+      | else-wait-lt-PLACES w ↦
+          w.slot-is ∙ w.free_slot-slot.ensures
+          ∙ sym (get_or-eq_default l.slots free_slot {n = c.wanted-wait.result} (omega (arith, w.if-wait-lt-PLACES.false, l.invariant.sized.slots)))
+    ] in
     let decides = c.decide-d.ensures s (record { head = refl; types-lent = refl; streams-lent = refl; used-lent = refl; live_lent = refl; kinds-lent = refl; ids-lent = refl }) in
     let e = settled_is s d c.wanted-wait.ensures slot_is c.settle-e.ensures in
     let eh = c.hold_to-h.ensures in
@@ -58,32 +58,32 @@ loop-k-preserved c =
     let edit = c.edit_of-edit.result in
     let edits = c.edit_of-edit.ensures s.rows refl in
     let left : Leaves from s lent piece after c.settle-e.result.answer (session_of c.if-edit.h c.if-edit.types c.if-edit.interfaces c.if-edit.streams c.if-edit.used c.if-edit.live c.if-edit.kinds c.if-edit.ids c.if-edit.slots c.if-edit.expected c.if-edit.gaps c.if-edit.breaks) =
-        elim c.if-edit.branch [
-          then-edit w ↦
-            let rows = w.apply-s.type_inv.1.1.1.0.1.1 in
-            let requests = w.apply-s.type_inv.1.1.1.1.0.1.1 in
-            let watch = w.apply-s.type_inv.1.1.1.1.1.0.1.1 in
-            let sized : Sized w.apply-s.result.rows w.apply-s.result.requests =
-                record {
-                  streams = search (length_unmapped, rows.1.1.0);
-                  live = search (length_unmapped, requests.1.0);
-                  kinds = search (length_unmapped, requests.1.1.0);
-                  ids = search (length_unmapped, requests.1.1.1.0);
-                  slots = search (long_of, requests.1.1.1.1.0);
-                } in
-            let long : Long w.apply-s.result.watch =
-                record { expected = search (length_unmapped, watch.0); gaps = search (length_unmapped, watch.1.0); breaks = search (length_unmapped, watch.1.1.0) } in
-            wide-leaves from s piece d decides e eh ec l.holds base end (omega arith) half-fits as_long w.body_of.ensures w.rows_handed-new.ensures w.apply-s.ensures sized long
-            (λ z. session_of (w.h-is z) (w.types-is z) (w.interfaces-is z) (w.streams-is z) (w.used-is z) (w.live-is z) (w.kinds-is z) (w.ids-is z) (w.slots-is z) (w.expected-is z) (w.gaps-is z) (w.breaks-is z))
-          | else-edit w ↦
-            let slots : w.if-place-lt-PLACES.slots ≡ placed_in l.slots edit (slot_of edit.request) =
-                elim w.if-place-lt-PLACES.branch [
-                  then-place-lt-PLACES v ↦ v.slots-is ∙ ap (λ (y : Slot). set l.slots edit.place y) v.slot_for.ensures ∙ placed l.slots edit (slot_of edit.request) v.if-place-lt-PLACES.true
-                  | else-place-lt-PLACES v ↦ v.slots-is ∙ unplaced l.slots edit (slot_of edit.request) v.if-place-lt-PLACES.false
-                ] in
-            narrow-leaves from s piece d decides e eh ec l.invariant.sized l.invariant.long edit edits w.if-edit.false w.store-used.ensures slots w.has_wide_ids.ensures w.note.ensures
-            (λ z. session_of (w.h-is z) (w.types-is z) (w.interfaces-is z) (w.streams-is z) (w.used-is z) (w.live-is z) (w.kinds-is z) (w.ids-is z) (w.slots-is z) (w.expected-is z) (w.gaps-is z) (w.breaks-is z))
-        ] in
+    elim c.if-edit.branch [
+      | then-edit w ↦
+          let rows = w.apply-s.type_inv.1.1.1.0.1.1 in
+          let requests = w.apply-s.type_inv.1.1.1.1.0.1.1 in
+          let watch = w.apply-s.type_inv.1.1.1.1.1.0.1.1 in
+          let sized : Sized w.apply-s.result.rows w.apply-s.result.requests =
+          record {
+            streams = search (length_unmapped, rows.1.1.0);
+            live = search (length_unmapped, requests.1.0);
+            kinds = search (length_unmapped, requests.1.1.0);
+            ids = search (length_unmapped, requests.1.1.1.0);
+            slots = search (long_of, requests.1.1.1.1.0);
+          } in
+          let long : Long w.apply-s.result.watch =
+          record { expected = search (length_unmapped, watch.0); gaps = search (length_unmapped, watch.1.0); breaks = search (length_unmapped, watch.1.1.0) } in
+          wide-leaves from s piece d decides e eh ec l.holds base end (omega arith) half-fits as_long w.body_of.ensures w.rows_handed-new.ensures w.apply-s.ensures sized long
+          (λ z. session_of (w.h-is z) (w.types-is z) (w.interfaces-is z) (w.streams-is z) (w.used-is z) (w.live-is z) (w.kinds-is z) (w.ids-is z) (w.slots-is z) (w.expected-is z) (w.gaps-is z) (w.breaks-is z))
+      | else-edit w ↦
+          let slots : w.if-place-lt-PLACES.slots ≡ placed_in l.slots edit (slot_of edit.request) =
+          elim w.if-place-lt-PLACES.branch [
+            | then-place-lt-PLACES v ↦ v.slots-is ∙ ap (λ (y : Slot). set l.slots edit.place y) v.slot_for.ensures ∙ placed l.slots edit (slot_of edit.request) v.if-place-lt-PLACES.true
+            | else-place-lt-PLACES v ↦ v.slots-is ∙ unplaced l.slots edit (slot_of edit.request) v.if-place-lt-PLACES.false
+          ] in
+          narrow-leaves from s piece d decides e eh ec l.invariant.sized l.invariant.long edit edits w.if-edit.false w.store-used.ensures slots w.has_wide_ids.ensures w.note.ensures
+          (λ z. session_of (w.h-is z) (w.types-is z) (w.interfaces-is z) (w.streams-is z) (w.used-is z) (w.live-is z) (w.kinds-is z) (w.ids-is z) (w.slots-is z) (w.expected-is z) (w.gaps-is z) (w.breaks-is z))
+    ] in
     record {
       driving =
           drive-goes-on l.invariant.driving c.settle-e.result.answer c.loop-k-test.true (part_to_end c.args.script.now l.at) c.get32.ensures c.if-rest-size.false c.get8.ensures
