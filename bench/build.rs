@@ -1,18 +1,13 @@
-//! With the feature `parser`, links the host of libusbredirparser; with the feature `entry`, the archive of `bench/entry` in ENTRY_DIR.
+//! Links the archive of the entry's caller, and with the feature `parser` the host of libusbredirparser.
 
 use std::env;
 use std::path::PathBuf;
 use std::process::Command;
 
 fn main() {
+    tools::link("test_drive_by_entry", None);
     if env::var_os("CARGO_FEATURE_PARSER").is_some() {
         link_parser();
-    }
-    if env::var_os("CARGO_FEATURE_ENTRY").is_some() {
-        println!("cargo:rerun-if-env-changed=ENTRY_DIR");
-        let directory = PathBuf::from(env::var_os("ENTRY_DIR").expect("the archive's directory"));
-        println!("cargo:rustc-link-search=native={}", directory.display());
-        println!("cargo:rustc-link-lib=static=drive_by_entry");
     }
 }
 

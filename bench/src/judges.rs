@@ -60,20 +60,30 @@ pub fn by_value(script: &Script, holds: &mut [u8], out: &mut [u8]) -> usize {
     library::run_by_value(&script.bytes, holds, out)
 }
 
-/// The proved gate by its entry, in a caller that is not proved.
-#[cfg(feature = "entry")]
+/// The proved gate by its entry, with the session in a record of the caller's.
 #[inline(never)]
 pub fn by_entry(script: &Script, holds: &mut [u8], out: &mut [u8]) -> usize {
-    #[repr(C)]
-    struct Slice(*const u8, usize);
     extern "C" {
-        fn drive_by_entry(script: *const Slice, holds: *const Slice, out: *const Slice) -> usize;
+        fn drive_by_entry(
+            script: *const u8,
+            script_size: usize,
+            holds: *mut u8,
+            holds_size: usize,
+            out: *mut u8,
+            out_size: usize,
+        ) -> usize;
     }
-    let script = Slice(script.bytes.as_ptr(), script.bytes.len());
-    let holds = Slice(holds.as_mut_ptr(), holds.len());
-    let out = Slice(out.as_mut_ptr(), out.len());
     // SAFETY: each pointer comes with the size of the slice it is taken from, and the slices that are written are borrowed alone.
-    unsafe { drive_by_entry(&script, &holds, &out) }
+    unsafe {
+        drive_by_entry(
+            script.bytes.as_ptr(),
+            script.bytes.len(),
+            holds.as_mut_ptr(),
+            holds.len(),
+            out.as_mut_ptr(),
+            out.len(),
+        )
+    }
 }
 
 /// The plain gate: the same calls, the same records.

@@ -21,7 +21,7 @@ use library::RECORD;
 use plain::HOLD_SIZE;
 use tools::{ensure, Report};
 
-use judges::{by_gate, by_plain, by_value, script_of, Script};
+use judges::{by_entry, by_gate, by_plain, by_value, script_of, Script};
 use traffic::{bulk_transfers, capture, full_table, interrupts, Traffic};
 
 const ROUNDS: usize = 11;
@@ -32,8 +32,7 @@ const GATES: &[(&str, Judge)] = &[
     ("plain", by_plain),
     ("gate", by_gate),
     ("by value", by_value),
-    #[cfg(feature = "entry")]
-    ("entry", judges::by_entry),
+    ("entry", by_entry),
 ];
 
 fn main() -> ExitCode {
