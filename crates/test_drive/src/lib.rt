@@ -206,7 +206,8 @@ pub fn test_drive(script: &[u8], holds: &mut [u8], out: &mut [u8]) -> usize
         } else {
             used = store(edit, used, &mut streams, &mut live, &mut kinds, &mut ids);
             let place = edit.place;
-            if place < PLACES {
+            let is_taken = place < PLACES;
+            if is_taken {
                 let q = edit.request;
                 slots[place] = slot_for(q);
             }

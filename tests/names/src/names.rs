@@ -138,6 +138,7 @@ impl Names {
         names.walk(root, "");
         let list = fs::read_to_string(root.join("crates.txt")).expect("the crates are read");
         let crates = list.lines().filter_map(|line| line.split_once(':'));
+        let crates = crates.map(|(name, below)| (name.trim_end_matches(" staticlib"), below));
         let crates = crates.filter(|(name, _)| is_identifier(name));
         names.crates = crates.map(|(name, _)| name.to_string()).collect();
         names.names.extend(names.crates.iter().cloned());

@@ -2,7 +2,7 @@
 
 use std::path::{Path, PathBuf};
 
-/// Links `libNAME.a` of the directory, or else of `target/staticlib`, where `rt staticlib NAME` puts it.
+/// Links `libNAME.a` of the directory, or else of `target/staticlib`, where `tools/build NAME` puts it.
 pub fn link(name: &str, directory: Option<PathBuf>) {
     let usual = || Path::new(env!("CARGO_MANIFEST_DIR")).join("../../target/staticlib");
     let directory = directory.unwrap_or_else(usual);
@@ -10,7 +10,7 @@ pub fn link(name: &str, directory: Option<PathBuf>) {
     println!("cargo:rerun-if-changed={}", archive.display());
     assert!(
         archive.exists(),
-        "no {}: run `rt staticlib {name}` first",
+        "no {}: run `tools/build {name}` first",
         archive.display()
     );
     println!("cargo:rustc-link-search=native={}", directory.display());

@@ -20,7 +20,7 @@ use Rattle.test_drive.proofs.ScriptRuns.{half-within, drive-goes-on, drive-short
 use Rattle.test_drive.proofs.Columns.{session_of, Leaves, wide-leaves, narrow-leaves, keeping-starts}
 use Rattle.session.specs.Edit.{placed_in}
 use Rattle.test_drive.proofs.test_drive.Goals as goal
-use Rattle.test_drive.proofs.test_drive.Goals.{then-edit, else-edit, then-wait-lt-PLACES, else-wait-lt-PLACES, then-place-lt-PLACES, else-place-lt-PLACES}
+use Rattle.test_drive.proofs.test_drive.Goals.{then-edit, else-edit, then-wait-lt-PLACES, else-wait-lt-PLACES, then-is_taken, else-is_taken}
 
 pub loop-k-init : goal.loop-k-init
 loop-k-init c = keeping-starts c.fresh_session-start.ensures
@@ -76,10 +76,10 @@ loop-k-preserved c =
           wide-leaves from s piece d decides e eh ec l.holds base end (omega arith) half-fits as_long w.body_of.ensures w.rows_handed-new.ensures w.apply-s.ensures sized long
           (λ z. session_of (w.h-is z) (w.types-is z) (w.interfaces-is z) (w.streams-is z) (w.used-is z) (w.live-is z) (w.kinds-is z) (w.ids-is z) (w.slots-is z) (w.expected-is z) (w.gaps-is z) (w.breaks-is z))
       | else-edit w ↦
-          let slots : w.if-place-lt-PLACES.slots ≡ placed_in l.slots edit (slot_of edit.request) =
-          elim w.if-place-lt-PLACES.branch [
-            | then-place-lt-PLACES v ↦ v.slots-is ∙ ap (λ (y : Slot). set l.slots edit.place y) v.slot_for.ensures ∙ placed l.slots edit (slot_of edit.request) v.if-place-lt-PLACES.true
-            | else-place-lt-PLACES v ↦ v.slots-is ∙ unplaced l.slots edit (slot_of edit.request) v.if-place-lt-PLACES.false
+          let slots : w.if-is_taken.slots ≡ placed_in l.slots edit (slot_of edit.request) =
+          elim w.if-is_taken.branch [
+            | then-is_taken v ↦ v.slots-is ∙ ap (λ (y : Slot). set l.slots edit.place y) v.slot_for.ensures ∙ placed l.slots edit (slot_of edit.request) v.if-is_taken.true
+            | else-is_taken v ↦ v.slots-is ∙ unplaced l.slots edit (slot_of edit.request) v.if-is_taken.false
           ] in
           narrow-leaves from s piece d decides e eh ec l.invariant.sized l.invariant.long edit edits w.if-edit.false w.store-used.ensures slots w.has_wide_ids.ensures w.note.ensures
           (λ z. session_of (w.h-is z) (w.types-is z) (w.interfaces-is z) (w.streams-is z) (w.used-is z) (w.live-is z) (w.kinds-is z) (w.ids-is z) (w.slots-is z) (w.expected-is z) (w.gaps-is z) (w.breaks-is z))
