@@ -38,6 +38,8 @@ const ALLOWED: [&str; 17] = [
 ];
 /// Patterns of the documents' paths.
 const DOCUMENTS: &str = "README.md docs/*.md tests/*/README.md bench/README.md";
+/// A page that gives names as they were before beside those of today.
+const OLD_NAMES: &str = "docs/PORT.md";
 
 #[derive(Default)]
 struct Tests {
@@ -87,7 +89,9 @@ fn main() -> ExitCode {
     let read = |path: &str| fs::read_to_string(root.join(path)).expect("the document is read");
     let names = Names::collect(&root);
     let mut tests = Tests::default();
-    let is_document = |path: &&String| DOCUMENTS.split(' ').any(|pattern| glob(pattern, path));
+    let is_document = |path: &&String| {
+        DOCUMENTS.split(' ').any(|pattern| glob(pattern, path)) && *path != OLD_NAMES
+    };
     for path in names.files.iter().filter(is_document) {
         tests.document(path, &read(path), &names);
     }
