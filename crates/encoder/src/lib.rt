@@ -88,7 +88,8 @@ pub fn write(l: Link, id: u64, p: Packet, body: &[u8], out: &mut [u8]) -> Writte
     // a rest that is too long counts as 65,536 bytes, which is too long as well, so that the sum has no overflow
     let length = fields_size(slot, caps) + minimum(rest.len(), 65536);
     let first = header_number(l, kind, length);
-    if first != 0 {
+    let is_refused = first != 0;
+    if is_refused {
         return Written {
             number: first,
             size: 0,

@@ -87,7 +87,8 @@ fn barred_by<'a>(
 ) -> u8
     ensures { (s : Session) (from : Side) (hold : List ℕ) → s.head ≡ h → s.rows.types ≡ types.now → s.requests.used ≡ used → s.requests.live ≡ live.now → s.requests.ids ≡ ids.now → l ≡ link_to from h → room ≡ length hold → whole ≡ held_whole from s hold → result ≡ barred from s hold }
 {
-    if room < HOLD_SIZE {
+    let is_short = room < HOLD_SIZE;
+    if is_short {
         return 41;
     }
     if is_unfit(h, types, used, live, ids) | whole {

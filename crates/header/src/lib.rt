@@ -131,7 +131,8 @@ pub fn read_header(l: Link, bytes: &[u8]) -> Header
 pub fn header_number(l: Link, kind: u32, length: usize) -> u8
     ensures { result ≡ header_number l kind length }
 {
-    if MAX_LENGTH < length {
+    let is_long = MAX_LENGTH < length;
+    if is_long {
         return 10;
     }
     if own_hello_passed(l) {

@@ -132,7 +132,8 @@ pub fn find_free(used: usize, live: &[bool; PLACES]) -> FoundPlace
         }
         i += 1;
     }
-    if n < PLACES {
+    let has_next = n < PLACES;
+    if has_next {
         FoundPlace::AtPlace(n)
     } else {
         FoundPlace::NoPlace
@@ -328,7 +329,8 @@ pub fn ids_differ<'a>(used: usize, live: &'a [bool; PLACES], ids: &'a [u64; PLAC
     ensures { (t : Requests) → t.used ≡ used → t.live ≡ live.now → t.ids ≡ ids.now → result ≡ ids_differ t }
 {
     let n = bound(used);
-    if n < 2 {
+    let is_few = n < 2;
+    if is_few {
         return true;
     }
     let mut gathered: [u64; PLACES] = [0; PLACES];

@@ -27,14 +27,14 @@ pub overflow_add-length : goal.overflow_add-length
 overflow_add-length c =
     omega (arith, c.minimum.ensures, c.fields_size.ensures, few (shared c.shared_set-caps.result) c.fields_of-f.result.slot c.fields_of-f.ensures.small)
 
-pub returns-then-first-ne0 : goal.returns-then-first-ne0
-returns-then-first-ne0 c =
+pub returns-then-is_refused : goal.returns-then-is_refused
+returns-then-is_refused c =
     let a = c.args in
     let q = content_of (shared_set a.l) a.id a.p a.body.now in
     let lists : Lists (shared_set a.l) a.p c.fields_of-f.result = rw c.shared_set-caps.ensures at c.fields_of-f.ensures in
     let headed : c.header_number-first.result ≡ header_number a.l q.kind (body_length a.l q) = c.header_number-first.ensures
     ∙ rw (c.minimum.ensures, c.fields_size.ensures, c.kind_of-kind.ensures, c.part_of-rest.ensures, c.shared_set-caps.ensures) (header a.l a.id a.p a.body.now c.fields_of-f.result lists) in
-    refused a.l q a.out.now c.header_number-first.result (by-header a.l q c.header_number-first.result headed c.if-first-ne0.true) c.if-first-ne0.true
+    refused a.l q a.out.now c.header_number-first.result (by-header a.l q c.header_number-first.result headed c.if-is_refused.true) c.if-is_refused.true
 
 pub returns-then-number-ne0 : goal.returns-then-number-ne0
 returns-then-number-ne0 c =
@@ -43,7 +43,7 @@ returns-then-number-ne0 c =
     let lists : Lists (shared_set a.l) a.p c.fields_of-f.result = rw c.shared_set-caps.ensures at c.fields_of-f.ensures in
     let headed : c.header_number-first.result ≡ header_number a.l q.kind (body_length a.l q) = c.header_number-first.ensures
     ∙ rw (c.minimum.ensures, c.fields_size.ensures, c.kind_of-kind.ensures, c.part_of-rest.ensures, c.shared_set-caps.ensures) (header a.l a.id a.p a.body.now c.fields_of-f.result lists) in
-    let passed : header_number a.l q.kind (body_length a.l q) ≡ 0 = rw headed at c.if-first-ne0.false in
+    let passed : header_number a.l q.kind (body_length a.l q) ≡ 0 = rw headed at c.if-is_refused.false in
     refused a.l q a.out.now c.wire_number-number.result (by-wire a.l q c.wire_number-number.result passed c.wire_number-number.ensures) c.if-number-ne0.true
 
 pub overflow_add-size : goal.overflow_add-size
@@ -59,7 +59,7 @@ overflow_add-size-2 c =
     let lists : Lists (shared_set a.l) a.p c.fields_of-f.result = rw c.shared_set-caps.ensures at c.fields_of-f.ensures in
     let headed : c.header_number-first.result ≡ header_number a.l q.kind (body_length a.l q) = c.header_number-first.ensures
     ∙ rw (c.minimum.ensures, c.fields_size.ensures, c.kind_of-kind.ensures, c.part_of-rest.ensures, c.shared_set-caps.ensures) (header a.l a.id a.p a.body.now c.fields_of-f.result lists) in
-    let passed : header_number a.l q.kind (body_length a.l q) ≡ 0 = rw headed at c.if-first-ne0.false in
+    let passed : header_number a.l q.kind (body_length a.l q) ≡ 0 = rw headed at c.if-is_refused.false in
     let narrow : c.id_width-width.result ≤ 8 = rw c.id_width-width.ensures (id-widths (λ w. w ≤ 8) (omega arith) (omega arith) a.l c.kind_of-kind.result) in
     let long : c.fields_size.result + c.minimum.result ≡ size (shared (shared_set a.l)) (kind_at c.fields_of-f.result.slot).fields + length (in_part c.fields_of-f.result.rest a.body.now) = let r = short-rest a.l a.id a.p a.body.now c.fields_of-f.result lists passed in
     let e : min (length (in_part c.fields_of-f.result.rest a.body.now)) 65536 ≡ length (in_part c.fields_of-f.result.rest a.body.now) = min-eq_left (omega (arith, r)) in
@@ -74,7 +74,7 @@ returns-then-out-size c =
     let lists : Lists (shared_set a.l) a.p c.fields_of-f.result = rw c.shared_set-caps.ensures at c.fields_of-f.ensures in
     let headed : c.header_number-first.result ≡ header_number a.l q.kind (body_length a.l q) = c.header_number-first.ensures
     ∙ rw (c.minimum.ensures, c.fields_size.ensures, c.kind_of-kind.ensures, c.part_of-rest.ensures, c.shared_set-caps.ensures) (header a.l a.id a.p a.body.now c.fields_of-f.result lists) in
-    let passed : header_number a.l q.kind (body_length a.l q) ≡ 0 = rw headed at c.if-first-ne0.false in
+    let passed : header_number a.l q.kind (body_length a.l q) ≡ 0 = rw headed at c.if-is_refused.false in
     let wired : wire_number a.l q ≡ 0 = sym c.wire_number-number.ensures ∙ c.if-number-ne0.false in
     let right : packet_number a.l q ≡ 0 = by-wire a.l q 0 passed (sym wired) in
     let octets : Octets a.body.now = λ k. (c.type_inv.body k).fits in
@@ -92,7 +92,7 @@ lay_out-requires c =
     let lists : Lists (shared_set a.l) a.p c.fields_of-f.result = rw c.shared_set-caps.ensures at c.fields_of-f.ensures in
     let headed : c.header_number-first.result ≡ header_number a.l q.kind (body_length a.l q) = c.header_number-first.ensures
     ∙ rw (c.minimum.ensures, c.fields_size.ensures, c.kind_of-kind.ensures, c.part_of-rest.ensures, c.shared_set-caps.ensures) (header a.l a.id a.p a.body.now c.fields_of-f.result lists) in
-    let passed : header_number a.l q.kind (body_length a.l q) ≡ 0 = rw headed at c.if-first-ne0.false in
+    let passed : header_number a.l q.kind (body_length a.l q) ≡ 0 = rw headed at c.if-is_refused.false in
     let narrow : c.id_width-width.result ≤ 8 = rw c.id_width-width.ensures (id-widths (λ w. w ≤ 8) (omega arith) (omega arith) a.l c.kind_of-kind.result) in
     let wired : wire_number a.l q ≡ 0 = sym c.wire_number-number.ensures ∙ c.if-number-ne0.false in
     let right : packet_number a.l q ≡ 0 = by-wire a.l q 0 passed (sym wired) in
@@ -108,7 +108,7 @@ returns c =
     let lists : Lists (shared_set a.l) a.p c.fields_of-f.result = rw c.shared_set-caps.ensures at c.fields_of-f.ensures in
     let headed : c.header_number-first.result ≡ header_number a.l q.kind (body_length a.l q) = c.header_number-first.ensures
     ∙ rw (c.minimum.ensures, c.fields_size.ensures, c.kind_of-kind.ensures, c.part_of-rest.ensures, c.shared_set-caps.ensures) (header a.l a.id a.p a.body.now c.fields_of-f.result lists) in
-    let passed : header_number a.l q.kind (body_length a.l q) ≡ 0 = rw headed at c.if-first-ne0.false in
+    let passed : header_number a.l q.kind (body_length a.l q) ≡ 0 = rw headed at c.if-is_refused.false in
     let wired : wire_number a.l q ≡ 0 = sym c.wire_number-number.ensures ∙ c.if-number-ne0.false in
     let right : packet_number a.l q ≡ 0 = by-wire a.l q 0 passed (sym wired) in
     let octets : Octets a.body.now = λ k. (c.type_inv.body k).fits in

@@ -17,14 +17,14 @@ returns-then-not-live-i c =
     let k = c.loop-i in
     λ t u v. free-here t _ _ _ u v c.bound-n.ensures.0 k.i k.invariant.0 k.invariant.1 (omega arith) c.if-not-live-i.true
 
-pub returns-then-n-lt-PLACES : goal.returns-then-n-lt-PLACES
-returns-then-n-lt-PLACES c =
+pub returns-then-has_next : goal.returns-then-has_next
+returns-then-has_next c =
     let k = c.loop-i in
     let b = c.bound-n in
     let q : k.i ≡ b.result = omega arith in
     λ t u v. ap some (sym q) ∙ free-next t _ _ _ u v b.ensures.0 k.i k.invariant.0 k.invariant.1 (omega arith) (omega arith)
 
-pub returns-else-n-lt-PLACES : goal.returns-else-n-lt-PLACES
-returns-else-n-lt-PLACES c =
+pub returns-else-has_next : goal.returns-else-has_next
+returns-else-has_next c =
     let k = c.loop-i in
     λ t u v. free-none t _ _ _ u v c.bound-n.ensures.0 k.i k.invariant.0 k.invariant.1 (omega arith)

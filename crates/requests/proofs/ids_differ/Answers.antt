@@ -15,8 +15,8 @@ use Rattle.requests.proofs.Loops.{few-differ, gathered-more, gathered-same, gath
 use Rattle.requests.proofs.ids_differ.Goals as goal
 use Rattle.requests.proofs.ids_differ.Goals.{then-live-i, else-live-i}
 
-pub returns-then-n-lt2 : goal.returns-then-n-lt2
-returns-then-n-lt2 c = λ t u v w. few-differ t _ _ _ u v c.bound-n.ensures.0 c.if-n-lt2.true
+pub returns-then-is_few : goal.returns-then-is_few
+returns-then-is_few c = λ t u v w. few-differ t _ _ _ u v c.bound-n.ensures.0 c.if-is_few.true
 
 pub loop-i-preserved : goal.loop-i-preserved
 loop-i-preserved c =
