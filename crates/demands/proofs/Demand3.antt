@@ -1,5 +1,5 @@
 -- Demand 3, of the gate's reader and writer (`demand-3`).
--- The general theorem (`wire/specs/Demand3.antt`) asks laws of one call; here the reader and the writer are shown to have them. That the calls of
+-- The general theorem (`wire/proofs/Demand3.antt`) asks laws of one call; here the reader and the writer are shown to have them. That the calls of
 -- the code are such calls (`read-of`, `other-of`, `call-of`) follows from their contracts.
 -- Assumes nothing.
 use Prim.Native.Nat.{ℕ, ◌+◌, ◌-◌}

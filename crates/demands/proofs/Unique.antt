@@ -68,7 +68,7 @@ buffer-of from s d hold piece after a = ap (λ (o : Outcome). o.hold) a.comes
 pub one-decision : OneDecision
 one-decision from h types streams used live kinds ids hold piece d k after later a b =
     let s : Session = lender h types streams used live kinds ids in
-    let lends : Lends s h types streams used live kinds ids = record { head = refl; types-lent = refl; streams-lent = refl; used-lent = refl; live_lent = refl; kinds-lent = refl; ids-lent = refl } in
+    let lends : Lends s h types streams used live kinds ids = record { head = refl; types-lent = refl; streams-lent = refl; used-lent = refl; live-lent = refl; kinds-lent = refl; ids-lent = refl } in
     let same : after ≡ later = buffer-of from s d hold piece after (a s lends) ∙ sym (buffer-of from s k hold piece later (b s lends)) in
     (decided-alike from s hold piece after d k (a s lends) (subst (λ (x : List ℕ). Decides from s k hold piece x) (sym same) (b s lends)), same)
 

@@ -123,7 +123,7 @@ pub record Lends (s : Session) (h : Head) (types : List ℕ) (streams : List Boo
   pub types-lent : s.rows.types ≡ types
   pub streams-lent : s.rows.streams ≡ streams
   pub used-lent : s.requests.used ≡ used
-  pub live_lent : s.requests.live ≡ live
+  pub live-lent : s.requests.live ≡ live
   pub kinds-lent : s.requests.kinds ≡ kinds
   pub ids-lent : s.requests.ids ≡ ids
 

@@ -99,7 +99,7 @@ module _ (p : Relay) {from : Side} (to : Side) {hold hold-after : List ℕ} (oth
   piece-kept t er em es ek =
       record { offered = q; first = f; keeps = λ h. (rw (em, er) refl, ek ∙ ap (sets kept p.waiting) es, refl); goes_on = λ h. absurd (true≢false (sym t ∙ h)) }
 
-  pub piece-goes-on : {r : Relay} {bytes other_After : List ℕ} → halts q piece ≡ false → bytes ≡ slice 0 p.waiting kept → OffersAll to q.session other bytes r other_After
-      → RelaysPiece p from to hold other piece kept r hold-after other_After kept
+  pub piece-goes-on : {r : Relay} {bytes other-after : List ℕ} → halts q piece ≡ false → bytes ≡ slice 0 p.waiting kept → OffersAll to q.session other bytes r other-after
+      → RelaysPiece p from to hold other piece kept r hold-after other-after kept
   piece-goes-on t e g =
       record { offered = q; first = f; keeps = λ h. absurd (false≢true (sym t ∙ h)); goes_on = λ h. (rw e at g, refl) }

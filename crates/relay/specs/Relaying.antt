@@ -57,11 +57,11 @@ halts q piece = ltb 0 q.waiting || eqb (length piece) 0 || q.over
 
 -- A piece of an end is offered. Where something is left of it, this is laid behind the bytes that wait, and without room for it the relay is over.
 -- Where nothing is, the bytes that wait are offered, as the other end's.
-pub record RelaysPiece (p : Relay) (from to : Side) (hold other piece kept : List ℕ) (r : Relay) (hold-after other_After kept-after : List ℕ) : Type 0 where
+pub record RelaysPiece (p : Relay) (from to : Side) (hold other piece kept : List ℕ) (r : Relay) (hold-after other-after kept-after : List ℕ) : Type 0 where
   pub offered : Relay
   pub first : OffersAll from p.session hold piece offered hold-after
   pub keeps : halts offered piece ≡ true
       → (r ≡ record { session = offered.session; waiting = p.waiting + min offered.waiting (length kept - p.waiting); over = offered.over || ltb (length kept - p.waiting) offered.waiting })
       × (kept-after ≡ sets kept p.waiting (slice (length piece - offered.waiting) (length piece) piece))
-      × (other_After ≡ other)
-  pub goes_on : halts offered piece ≡ false → OffersAll to offered.session other (slice 0 p.waiting kept) r other_After × (kept-after ≡ kept)
+      × (other-after ≡ other)
+  pub goes_on : halts offered piece ≡ false → OffersAll to offered.session other (slice 0 p.waiting kept) r other-after × (kept-after ≡ kept)

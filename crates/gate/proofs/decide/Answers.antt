@@ -18,7 +18,7 @@ returns-then-number-ne0 c =
     let eb = c.part-begun.ensures in
     let ec = c.cut_of-c.ensures in
     λ s l.
-    let en = c.barred_by-number.ensures s a.from a.hold.now l.head l.types-lent l.used-lent l.live_lent l.ids-lent el refl (whole_is a.from s a.hold.now a.piece.now l.head el ed eb ec c.ends_within-whole.ensures) in
+    let en = c.barred_by-number.ensures s a.from a.hold.now l.head l.types-lent l.used-lent l.live-lent l.ids-lent el refl (whole_is a.from s a.hold.now a.piece.now l.head el ed eb ec c.ends_within-whole.ensures) in
     barred-decides a.from s a.hold.now a.piece.now l.head el ed eb ec en c.if-number-ne0.true c.ended.ensures
 
 pub overflow_add-held : goal.overflow_add-held
@@ -50,7 +50,7 @@ returns-in-More c =
     let eb = c.part-begun.ensures in
     let ec = c.cut_of-c.ensures in
     λ s l.
-    let en = c.barred_by-number.ensures s a.from a.hold.now l.head l.types-lent l.used-lent l.live_lent l.ids-lent el refl (whole_is a.from s a.hold.now a.piece.now l.head el ed eb ec c.ends_within-whole.ensures) in
+    let en = c.barred_by-number.ensures s a.from a.hold.now l.head l.types-lent l.used-lent l.live-lent l.ids-lent el refl (whole_is a.from s a.hold.now a.piece.now l.head el ed eb ec c.ends_within-whole.ensures) in
     more-decides a.from s a.hold.now a.piece.now l.head el ed eb ec en c.if-number-ne0.false c.in-More.is c.lay.ensures c.ended-in-More.ensures
 
 pub returns-in-BadHeader : goal.returns-in-BadHeader
@@ -61,7 +61,7 @@ returns-in-BadHeader c =
     let eb = c.part-begun.ensures in
     let ec = c.cut_of-c.ensures in
     λ s l.
-    let en = c.barred_by-number.ensures s a.from a.hold.now l.head l.types-lent l.used-lent l.live_lent l.ids-lent el refl (whole_is a.from s a.hold.now a.piece.now l.head el ed eb ec c.ends_within-whole.ensures) in
+    let en = c.barred_by-number.ensures s a.from a.hold.now l.head l.types-lent l.used-lent l.live-lent l.ids-lent el refl (whole_is a.from s a.hold.now a.piece.now l.head el ed eb ec c.ends_within-whole.ensures) in
     header-decides a.from s a.hold.now a.piece.now l.head el ed eb ec en c.if-number-ne0.false c.in-BadHeader.is c.complete-taken.ensures.0 c.location_of.ensures c.complete-taken.ensures.1 c.ended-in-BadHeader.ensures
 
 pub returns-in-WholePacket : goal.returns-in-WholePacket
@@ -72,5 +72,5 @@ returns-in-WholePacket c =
     let eb = c.part-begun.ensures in
     let ec = c.cut_of-c.ensures in
     λ s l.
-    let en = c.barred_by-number.ensures s a.from a.hold.now l.head l.types-lent l.used-lent l.live_lent l.ids-lent el refl (whole_is a.from s a.hold.now a.piece.now l.head el ed eb ec c.ends_within-whole.ensures) in
+    let en = c.barred_by-number.ensures s a.from a.hold.now l.head l.types-lent l.used-lent l.live-lent l.ids-lent el refl (whole_is a.from s a.hold.now a.piece.now l.head el ed eb ec c.ends_within-whole.ensures) in
     c.take_packet.ensures s a.from l el ed (is-ready a.from s a.hold.now a.piece.now l.head el ed eb ec en c.if-number-ne0.false) (cuts a.from s a.hold.now a.piece.now l.head el ed eb ec c.in-WholePacket.is)

@@ -23,7 +23,7 @@ returns-then-edit c =
     let a = c.args in
     let sized : Sized a.s.rows a.s.requests = record { streams = search rules; live = search rules; kinds = search rules; ids = search rules; slots = search (rules, long_of) } in
     let decides : Decides a.from a.s c.decide-d.result a.hold.now a.piece.now c.decide-d.new.hold =
-    c.decide-d.ensures a.s (record { head = refl; types-lent = refl; streams-lent = refl; used-lent = refl; live_lent = refl; kinds-lent = refl; ids-lent = refl }) in
+    c.decide-d.ensures a.s (record { head = refl; types-lent = refl; streams-lent = refl; used-lent = refl; live-lent = refl; kinds-lent = refl; ids-lent = refl }) in
     let slot_is : c.if-at-lt-PLACES.slot ≡ get_or a.s.requests.slots c.wanted-at.result free_slot =
     elim c.if-at-lt-PLACES.branch [
       | then-at-lt-PLACES w ↦ w.slot-is
@@ -41,7 +41,7 @@ returns c =
     let a = c.args in
     let sized : Sized a.s.rows a.s.requests = record { streams = search rules; live = search rules; kinds = search rules; ids = search rules; slots = search (rules, long_of) } in
     let decides : Decides a.from a.s c.decide-d.result a.hold.now a.piece.now c.decide-d.new.hold =
-    c.decide-d.ensures a.s (record { head = refl; types-lent = refl; streams-lent = refl; used-lent = refl; live_lent = refl; kinds-lent = refl; ids-lent = refl }) in
+    c.decide-d.ensures a.s (record { head = refl; types-lent = refl; streams-lent = refl; used-lent = refl; live-lent = refl; kinds-lent = refl; ids-lent = refl }) in
     let slot_is : c.if-at-lt-PLACES.slot ≡ get_or a.s.requests.slots c.wanted-at.result free_slot =
     elim c.if-at-lt-PLACES.branch [
       | then-at-lt-PLACES w ↦ w.slot-is

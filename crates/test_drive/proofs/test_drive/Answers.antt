@@ -51,7 +51,7 @@ loop-k-preserved c =
           w.slot-is ∙ w.free_slot-slot.ensures
           ∙ sym (get_or-eq_default l.slots free_slot {n = c.wanted-wait.result} (omega (arith, w.if-wait-lt-PLACES.false, l.invariant.sized.slots)))
     ] in
-    let decides = c.decide-d.ensures s (record { head = refl; types-lent = refl; streams-lent = refl; used-lent = refl; live_lent = refl; kinds-lent = refl; ids-lent = refl }) in
+    let decides = c.decide-d.ensures s (record { head = refl; types-lent = refl; streams-lent = refl; used-lent = refl; live-lent = refl; kinds-lent = refl; ids-lent = refl }) in
     let e = settled_is s d c.wanted-wait.ensures slot_is c.settle-e.ensures in
     let eh = c.hold_to-h.ensures in
     let ec = c.change_of-c.ensures in
