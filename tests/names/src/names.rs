@@ -110,7 +110,7 @@ impl Names {
             let entry = entry.expect("the folder is read");
             let name = entry.file_name().to_string_lossy().into_owned();
             let path = format!("{folder}{name}");
-            if name == "target" || name == ".git" {
+            if ["target", "out", ".git"].contains(&name.as_str()) {
                 continue;
             } else if entry.path().is_dir() {
                 self.path(&format!("{path}/"));
