@@ -1,11 +1,10 @@
-//! Links the archive of the entry's caller, and with the feature `parser` the host of libusbredirparser.
+//! With the feature `parser`, links the host of libusbredirparser.
 
 use std::env;
 use std::path::PathBuf;
 use std::process::Command;
 
 fn main() {
-    tools::link("test_drive_by_entry", None);
     if env::var_os("CARGO_FEATURE_PARSER").is_some() {
         link_parser();
     }

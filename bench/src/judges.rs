@@ -63,27 +63,7 @@ pub fn by_value(script: &Script, holds: &mut [u8], out: &mut [u8]) -> usize {
 /// The proved gate by its entry, with the session in a record of the caller's.
 #[inline(never)]
 pub fn by_entry(script: &Script, holds: &mut [u8], out: &mut [u8]) -> usize {
-    extern "C" {
-        fn drive_by_entry(
-            script: *const u8,
-            script_size: usize,
-            holds: *mut u8,
-            holds_size: usize,
-            out: *mut u8,
-            out_size: usize,
-        ) -> usize;
-    }
-    // SAFETY: each pointer comes with the size of the slice it is taken from, and the slices that are written are borrowed alone.
-    unsafe {
-        drive_by_entry(
-            script.bytes.as_ptr(),
-            script.bytes.len(),
-            holds.as_mut_ptr(),
-            holds.len(),
-            out.as_mut_ptr(),
-            out.len(),
-        )
-    }
+    library::run_by_entry(&script.bytes, holds, out)
 }
 
 /// The plain gate: the same calls, the same records.

@@ -3,24 +3,33 @@
 use plain::{Answer, Place, Session, Side, IN_ROWS};
 use tools::captures;
 
-extern "C" {
-    fn test_drive(
-        script: *const u8,
-        script_size: usize,
-        holds: *mut u8,
-        holds_size: usize,
-        out: *mut u8,
-        out_size: usize,
-    ) -> usize;
+/// What the archives of the proved gate export: the gate by each of its callers.
+type Export = unsafe extern "C" fn(
+    script: *const u8,
+    script_size: usize,
+    holds: *mut u8,
+    holds_size: usize,
+    out: *mut u8,
+    out_size: usize,
+) -> usize;
 
-    fn test_drive_by_value(
-        script: *const u8,
-        script_size: usize,
-        holds: *mut u8,
-        holds_size: usize,
-        out: *mut u8,
-        out_size: usize,
-    ) -> usize;
+mod archive {
+    macro_rules! exports {
+        ($($name:ident),*) => {
+            extern "C" {
+                $(pub fn $name(
+                    script: *const u8,
+                    script_size: usize,
+                    holds: *mut u8,
+                    holds_size: usize,
+                    out: *mut u8,
+                    out_size: usize,
+                ) -> usize;)*
+            }
+        };
+    }
+
+    exports!(test_drive, test_drive_by_value, drive_by_entry);
 }
 
 /// Bytes that the library writes for each call.
@@ -36,12 +45,11 @@ pub const WATCH: usize = IN_ROWS * ROW_WATCH;
 /// the records stands the watch after all calls, as far as the output goes.
 pub type Run = fn(script: &[u8], holds: &mut [u8], out: &mut [u8]) -> usize;
 
-/// With the session's columns kept, and changed in place.
-pub fn run(script: &[u8], holds: &mut [u8], out: &mut [u8]) -> usize {
+fn call(export: Export, script: &[u8], holds: &mut [u8], out: &mut [u8]) -> usize {
     // SAFETY: each pointer comes with the size of the slice it is taken from, and the slices that
     // are written are borrowed alone.
     unsafe {
-        test_drive(
+        export(
             script.as_ptr(),
             script.len(),
             holds.as_mut_ptr(),
@@ -52,19 +60,19 @@ pub fn run(script: &[u8], holds: &mut [u8], out: &mut [u8]) -> usize {
     }
 }
 
+/// With the session's columns kept, and changed in place.
+pub fn run(script: &[u8], holds: &mut [u8], out: &mut [u8]) -> usize {
+    call(archive::test_drive, script, holds, out)
+}
+
 /// With the session by value through each call.
 pub fn run_by_value(script: &[u8], holds: &mut [u8], out: &mut [u8]) -> usize {
-    // SAFETY: as for `run`.
-    unsafe {
-        test_drive_by_value(
-            script.as_ptr(),
-            script.len(),
-            holds.as_mut_ptr(),
-            holds.len(),
-            out.as_mut_ptr(),
-            out.len(),
-        )
-    }
+    call(archive::test_drive_by_value, script, holds, out)
+}
+
+/// With the session in a record that the entry changes in place.
+pub fn run_by_entry(script: &[u8], holds: &mut [u8], out: &mut [u8]) -> usize {
+    call(archive::drive_by_entry, script, holds, out)
 }
 
 /// The record of a call of the plain gate, as the library writes one: number, place, taken, size, where
