@@ -1,73 +1,43 @@
--- What the proofs of this crate's functions cite: what one turn of a loop does to a prefix, to digits, to the bytes that they spell and to a
--- decimal; what each branch of `decode_line` has decoded and of `digits_flaw` has found; and that a part of a line laid behind another is one part with it (`adds_then`).
+-- What the proofs of this crate's functions cite: that a line starts with a prefix as the library compares it (`strips`); what one turn of a loop does
+-- to the bytes that digits spell and to a decimal; what each branch of `decode_line` has decoded; and that a part of a text laid behind another is
+-- one part with it (`adds_then`).
 -- A turn is stated of the rest of a list, from i on: `drop-cons` splits its first element off, and the definition computes one step. Of a decimal
 -- `Making` says that the digits made, with those of n / 10 in front, are all, and that n has at most i + 1 digits: so 20 places are enough.
 -- Assumes nothing.
+use Rattle.std.specs.Prelude.{Some, None, is_some, Result, Ok, Err}
+use Rattle.std.specs.Borrow.{MutBor}
+use Rattle.std.specs.Cmp.Lexicographic.{pointwise}
 use mathlib.Core.Path.{◌≡◌, refl, sym, ap, ◌∙◌}
-use mathlib.Core.Bool.{Bool, true, false, cond, not, and-false}
+use mathlib.Core.Bool.{Bool, true, false, cond, ◌&&◌}
 use mathlib.Core.List.{List, [], ◌∷◌, ◌++◌, append_assoc}
 use Prim.Native.Nat.{ℕ, zero, suc, ◌+◌, ◌-◌, ◌*◌, ◌/◌, ◌%◌, ◌^◌, ◌≤◌, ◌<◌, min}
 use native.Mathlib.Nat.{pow-suc, add-zero}
 use native.Mathlib.Numerals.{add-one}
 use native.Mathlib.Omega.{arith}
-use borrow.Author.Tests.{not-true, not-false, leb-true, ltb-true, ltb-false, eq-eqb, ne_eqb, le-ltb, lt-ltb}
-use lib.ListN.{length, replicate, get_or, set, take, drop, length-append, length-drop, length-set, drop_of_length-le}
-use lib.Seq.{sets, slice, take-length, take_all, drop-cons, drop-set-lt, get_or-set_same, length-sets}
-use lib.Dec.{eqb, leb, ltb}
+use borrow.Author.Tests.{not-true, not-false, ltb-true, ltb-false, le-ltb, lt-ltb}
+use lib.ListN.{length, replicate, get_or, set, take, drop, length-append, length-drop, length-set}
+use lib.Seq.{sets, take_all, drop-cons, drop-set-lt, get_or-set_same, length-sets}
+use lib.Dec.{eqb, ltb}
 use Rattle.octets.specs.Saturated.{largest}
 use Rattle.octets.proofs.Integers.{sets-append, sets-out}
-use Rattle.octets.proofs.Logic.{and_parts}
 use Rattle.header.specs.declared.Side.{Side}
 use Rattle.header.specs.declared.Side.TheVariants.{Guest, Host}
-use Rattle.capture.specs.declared.Line.{Line}
-use Rattle.capture.specs.declared.Line.TheVariants.{Bad, Piece}
+use Rattle.capture.specs.declared.Piece.{Piece}
+use Rattle.capture.specs.declared.Text.{Text}
 use Rattle.capture.specs.declared.Flaw.{Flaw}
-use Rattle.capture.specs.declared.Flaw.TheVariants.{Nothing, Start, Long, Digit, Odd}
-use Rattle.capture.proofs.LineLaws.{length-spelt, no-flaw, spells-not}
-use Rattle.capture.specs.Flaws.{digits_flaw, flaw_of, is_flaw}
-use Rattle.capture.specs.Lines.{start_of, is_spelling, piece_of, line_of, Decodes, starts_with, between, is_hex, all_hex, hex_value, spelt, digits, decimal, Adds, Forms}
+use Rattle.capture.specs.declared.Flaw.TheVariants.{Start}
+use Rattle.capture.proofs.LineLaws.{length-spelt, spells-not}
+use Rattle.capture.specs.Flaws.{digits_flaw, flaw_of}
+use Rattle.capture.specs.Lines.{start_of, is_spelling, piece_of, line_of, Decodes, starts_with, hex_value, spelt, digits, decimal, Starts, Adds, Forms}
 
 -- ---- a prefix
 
-module _ (p l : List ℕ) (i : ℕ) where
-  pub prefix-ends : length p ≤ i → starts_with (drop i p) (drop i l) ≡ true
-  unfolding starts_with
-  prefix-ends h = rw (drop_of_length-le p h)
-
-  pub prefix-goes-on : i < length p → i < length l → get_or l i 0 ≡ get_or p i 0
-      → starts_with (drop i p) (drop i l) ≡ starts_with (drop (i + 1) p) (drop (i + 1) l)
-  unfolding starts_with
-  prefix-goes-on h k e = rw (add-one, drop-cons p i 0, drop-cons l i 0, eq-eqb (get_or l i 0) (get_or p i 0) e)
-
-  pub prefix-differs : i < length p → i < length l → (get_or l i 0 ≡ get_or p i 0 → ⊥) → starts_with (drop i p) (drop i l) ≡ false
-  unfolding starts_with
-  prefix-differs h k e = rw (drop-cons p i 0, drop-cons l i 0, ne_eqb (get_or l i 0) (get_or p i 0) e)
-
-pub prefix-short : (p l : List ℕ) → length l < length p → starts_with p l ≡ false
+-- as the library compares it
+pub strips : (p l : List ℕ) → pointwise eqb (take (length p) l) p ≡ starts_with p l
 unfolding starts_with
-prefix-short [] l h = absurd (omega arith)
-prefix-short (x ∷ p) [] h = refl
-prefix-short (x ∷ p) (b ∷ l) h = rw (prefix-short p l (omega arith)) (and-false (eqb b x))
-
--- ---- digits
-
-pub between-true : (first last b : ℕ) → between first last b ≡ true → (first ≤ b) × (b ≤ last)
-between-true first last b e =
-    let t = and_parts (leb first b) (leb b last) e in
-    (leb-true first b t.0, leb-true b last t.1)
-
-module _ (s : List ℕ) (i : ℕ) where
-  pub hex-ends : length s ≤ i → all_hex (drop i s) ≡ true
-  unfolding all_hex
-  hex-ends h = rw (drop_of_length-le s h)
-
-  pub hex-goes-on : i < length s → is_hex (get_or s i 0) ≡ true → all_hex (drop i s) ≡ all_hex (drop (i + 1) s)
-  unfolding all_hex
-  hex-goes-on h e = rw (add-one, drop-cons s i 0, e)
-
-  pub no-hex : i < length s → is_hex (get_or s i 0) ≡ false → all_hex (drop i s) ≡ false
-  unfolding all_hex
-  no-hex h e = rw (drop-cons s i 0, e)
+strips [] l = refl
+strips (x ∷ p) [] = refl
+strips (x ∷ p) (b ∷ l) = ap (λ (t : Bool). eqb b x && t) (strips p l)
 
 -- ---- what digits spell
 
@@ -94,54 +64,37 @@ spelt-step out s i x h e =
 
 -- ---- an input line
 
-module _ (from : Side) (s : List ℕ) {out : List ℕ} {f : Flaw} (ef : f ≡ digits_flaw s) where
-  pub decodes-piece : {after : List ℕ} → is_flaw f ≡ false → after ≡ sets out 0 (spelt s)
-      → Decodes (piece_of from s) (digits_flaw s) out (Piece from (length s / 2)) after
-  decodes-piece t e =
-      let n : is_flaw (digits_flaw s) ≡ false = sym (ap is_flaw ef) ∙ t in
-      let h : is_spelling s ≡ true = not-false (is_spelling s) (sym (spells-not s) ∙ n) in
-      rw h (record { told = ap (Piece from) (sym (length-spelt s)); why = sym (no-flaw (digits_flaw s) n); output = e })
+module _ (from : Side) (s : List ℕ) {out : List ℕ} where
+  pub decodes-piece : {after : List ℕ} → None ≡ digits_flaw s → after ≡ sets out 0 (spelt s)
+      → Decodes (piece_of from s) (digits_flaw s) out (Ok (record { from = from; size = length s / 2 })) after
+  decodes-piece n e =
+      let h : is_spelling s ≡ true = not-false (is_spelling s) (sym (spells-not s) ∙ sym (ap is_some n)) in
+      rw h (record { told = ap (λ (n : ℕ). Some (record { from = from; size = n })) (sym (length-spelt s)); why = n; output = e })
 
-  pub decodes-nothing : is_flaw f ≡ true → Decodes (piece_of from s) (digits_flaw s) out (Bad f) out
-  decodes-nothing t =
-      let h : is_spelling s ≡ false = not-true (is_spelling s) (sym (spells-not s) ∙ sym (ap is_flaw ef) ∙ t) in
-      rw h (record { told = ap Bad ef; why = ef; output = refl })
+  pub decodes-nothing : {f : Flaw} → Some f ≡ digits_flaw s → Decodes (piece_of from s) (digits_flaw s) out (Err f) out
+  decodes-nothing n =
+      let h : is_spelling s ≡ false = not-true (is_spelling s) (sym (spells-not s) ∙ sym (ap is_some n)) in
+      rw h (record { told = refl; why = n; output = refl })
 
 module _ (line : List ℕ) {out : List ℕ} where
-  pub decodes-guest : {s after : List ℕ} {r : Line} → starts_with (start_of Guest) line ≡ true → s ≡ slice 17 (length line) line
+  pub decodes-guest : {s after : List ℕ} {r : Result Piece Flaw} → starts_with (start_of Guest) line ≡ true → s ≡ drop 17 line
       → Decodes (piece_of Guest s) (digits_flaw s) out r after
       → Decodes (line_of line) (flaw_of line) out r after
   unfolding line_of flaw_of
-  decodes-guest h e d = rw h (rw (e, take-length line) at d)
+  decodes-guest h e d = rw h (rw e at d)
 
-  pub decodes-host : {s after : List ℕ} {r : Line} → starts_with (start_of Guest) line ≡ false
+  pub decodes-host : {s after : List ℕ} {r : Result Piece Flaw} → starts_with (start_of Guest) line ≡ false
       → starts_with (start_of Host) line ≡ true
-      → s ≡ slice 16 (length line) line
+      → s ≡ drop 16 line
       → Decodes (piece_of Host s) (digits_flaw s) out r after
       → Decodes (line_of line) (flaw_of line) out r after
   unfolding line_of flaw_of
-  decodes-host g h e d = rw (g, h) (rw (e, take-length line) at d)
+  decodes-host g h e d = rw (g, h) (rw e at d)
 
   pub decodes-other : starts_with (start_of Guest) line ≡ false → starts_with (start_of Host) line ≡ false
-      → Decodes (line_of line) (flaw_of line) out (Bad Start) out
+      → Decodes (line_of line) (flaw_of line) out (Err Start) out
   unfolding line_of flaw_of
   decodes-other g h = rw (g, h) (record { told = refl; why = refl; output = refl })
-
--- ---- the flaw of digits
-
-module _ (s : List ℕ) where
-  pub flaw-long : 4096 < length s → Long ≡ digits_flaw s
-  flaw-long h = rw (lt-ltb 4096 (length s) h)
-
-  module _ (h : length s ≤ 4096) where
-    pub flaw-digit : not (all_hex s) ≡ true → Digit ≡ digits_flaw s
-    flaw-digit t = rw (le-ltb 4096 (length s) h, not-true (all_hex s) t)
-
-    pub flaw-none : not (all_hex s) ≡ false → length s % 2 ≡ 0 → Nothing ≡ digits_flaw s
-    flaw-none t e = rw (le-ltb 4096 (length s) h, not-false (all_hex s) t, eq-eqb (length s % 2) 0 e)
-
-    pub flaw-odd : not (all_hex s) ≡ false → (length s % 2 ≡ 0 → ⊥) → Odd ≡ digits_flaw s
-    flaw-odd t e = rw (le-ltb 4096 (length s) h, not-false (all_hex s) t, ne_eqb (length s % 2) 0 e)
 
 -- ---- a line, laid part by part
 
@@ -154,23 +107,30 @@ sets-cut l xs i j m h e = go (ltb i m) refl
     go false t = sets-out l xs i (omega (arith, ltb-false i m t)) ∙ sym (sets-out l xs j (omega (arith, ltb-false i m t)))
 
 -- a part behind another is one part
-pub adds_then : {at k : ℕ} {out mid after xs ys : List ℕ} {a r : ℕ} → length out ≤ largest → Adds xs at k out a mid
-    → Adds ys at a mid r after
-    → Adds (xs ++ ys) at k out r after
-adds_then {at} {k} {out} {mid} {after} {xs} {ys} {a} {r} h p q =
+pub adds_then : {t u v : Text} {xs ys : List ℕ} → Adds xs t u → Adds ys u v → Adds (xs ++ ys) t v
+adds_then {t} {u} {xs = xs} {ys} p q =
     record {
+      same = q.same ∙ p.same;
+      start = q.start ∙ p.start;
       size = omega (arith, p.size, q.size, length-append xs ys);
       output = q.output
-          ∙ rw p.output (sets-cut (sets out (at + k) xs) ys (at + a) (at + k + length xs) largest (rw length-sets h) (omega (arith, p.size))
-          ∙ sym (sets-append out (at + k) xs ys));
+          ∙ rw (p.output, p.start) (sets-cut (sets t.out.now (t.at + t.size) xs) ys (t.at + u.size) (t.at + t.size + length xs) largest (rw length-sets p.few) (omega (arith, p.size))
+          ∙ sym (sets-append t.out.now (t.at + t.size) xs ys));
+      few = p.few;
     }
 
--- a line, or a few, that are whole, and not too long to count
-pub forms-few : {line : List ℕ} {at : ℕ} {out after : List ℕ} {r : ℕ} → length line ≤ 256 → Adds line at 0 out r after → Forms line at out r after
-forms-few h p = record { size = omega (arith, p.size); output = rw add-zero at p.output }
+module _ {out : MutBor (List ℕ)} {at : ℕ} {t : Text} (s : Starts out at t) where
+  -- nothing of a text
+  pub adds_none : Adds [] t t
+  adds_none = record { same = refl; start = refl; size = omega (arith, s.size); output = refl; few = omega (arith, ap length s.before, s.few) }
 
-pub forms-all : {line : List ℕ} {at : ℕ} {out after : List ℕ} {r : ℕ} → length line ≤ 117 → Adds line at 0 out r after → Forms line at out r after
-forms-all h p = forms-few (omega (arith, h)) p
+  -- a line, or a few, that are whole, and not too long to count
+  pub forms-few : {line after : List ℕ} {u : Text} → length line ≤ 256 → Adds line t u → after ≡ u.out.now → Forms line at out.now u.size after
+  forms-few h p e =
+      record { size = omega (arith, p.size, s.size); output = e ∙ p.output ∙ rw (s.before, s.start, s.size, add-zero) }
+
+  pub forms-all : {line after : List ℕ} {u : Text} → length line ≤ 117 → Adds line t u → after ≡ u.out.now → Forms line at out.now u.size after
+  forms-all h p e = forms-few (omega (arith, h)) p e
 
 -- ---- a number in decimal
 

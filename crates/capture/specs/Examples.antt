@@ -1,55 +1,54 @@
 -- Lines decoded and formed, by computation: document 01's example, the borders of its rules, a bad line of each sort and its flaw.
 -- Assumes nothing.
-use Rattle.std.specs.Prelude.{ℕ, ◌≡◌, refl, true, false, List, [], ◌∷◌, ◌++◌, replicate}
-use Rattle.std.proofs.Math.Option.{none, some}
+use Rattle.std.specs.Prelude.{ℕ, ◌≡◌, refl, true, false, List, [], ◌∷◌, ◌++◌, replicate, Some, None}
 use Rattle.header.specs.declared.Side.{Side}
 use Rattle.header.specs.declared.Side.TheVariants.{Guest, Host}
-use Rattle.capture.specs.declared.Flaw.TheVariants.{Nothing, Start, Long, Digit, Odd}
+use Rattle.capture.specs.declared.Flaw.TheVariants.{Start, Long, Digit, Odd}
 use Rattle.capture.specs.Flaws.{flaw_of, flaw_line, error_lines}
-use Rattle.capture.specs.Lines.{ascii, start_of, starts_with, all_hex, spelt, line_of, digits, answer_line, totals_line, bad_line}
+use Rattle.capture.specs.Lines.{ascii, start_of, starts_with, spelt, line_of, digits, answer_line, totals_line, bad_line}
 
 -- ---- good lines
 
 abbrev Offers : List ℕ → Side → List ℕ → Type 0
-Offers line from bytes = line_of line ≡ some (record { from = from; bytes = bytes })
+Offers line from bytes = line_of line ≡ Some (record { from = from; bytes = bytes })
 
 -- document 01's example
 example-line : Offers (ascii "from=guest bytes=070000000000000007000000") Guest (7 ∷ 0 ∷ 0 ∷ 0 ∷ 0 ∷ 0 ∷ 0 ∷ 0 ∷ 7 ∷ 0 ∷ 0 ∷ 0 ∷ [])
-unfolding line_of starts_with all_hex spelt
+unfolding line_of starts_with spelt
 example-line = refl
 
 each-digit : Offers (ascii "from=host bytes=0123456789abcdef") Host (0x01 ∷ 0x23 ∷ 0x45 ∷ 0x67 ∷ 0x89 ∷ 0xab ∷ 0xcd ∷ 0xef ∷ [])
-unfolding line_of starts_with all_hex spelt
+unfolding line_of starts_with spelt
 each-digit = refl
 
 -- 0 is an even count
 no-digits : Offers (ascii "from=host bytes=") Host []
-unfolding line_of starts_with all_hex spelt
+unfolding line_of starts_with spelt
 no-digits = refl
 
 digits-4096 : Offers (start_of Guest ++ replicate 4096 48) Guest (replicate 2048 0)
-unfolding line_of starts_with all_hex spelt
+unfolding line_of starts_with spelt
 digits-4096 = refl
 
 -- ---- bad lines
 
 abbrev IsBad : List ℕ → Type 0
-IsBad line = line_of line ≡ none
+IsBad line = line_of line ≡ None
 
 digits-4098 : IsBad (start_of Guest ++ replicate 4098 48)
-unfolding line_of starts_with all_hex
+unfolding line_of starts_with
 digits-4098 = refl
 
 odd-count : IsBad (ascii "from=guest bytes=070")
-unfolding line_of starts_with all_hex
+unfolding line_of starts_with
 odd-count = refl
 
 upper-case : IsBad (ascii "from=guest bytes=0A")
-unfolding line_of starts_with all_hex
+unfolding line_of starts_with
 upper-case = refl
 
 no-hex : IsBad (ascii "from=guest bytes=0g")
-unfolding line_of starts_with all_hex
+unfolding line_of starts_with
 no-hex = refl
 
 empty : IsBad []
@@ -57,11 +56,11 @@ unfolding line_of starts_with
 empty = refl
 
 carriage-return : IsBad (ascii "from=guest bytes=07\r")
-unfolding line_of starts_with all_hex
+unfolding line_of starts_with
 carriage-return = refl
 
 blank-behind : IsBad (ascii "from=guest bytes=07 ")
-unfolding line_of starts_with all_hex
+unfolding line_of starts_with
 blank-behind = refl
 
 blank-in-front : IsBad (ascii " from=guest bytes=07")
@@ -78,16 +77,16 @@ cut_short = refl
 
 -- ---- why they are bad: where a line has several flaws, the first of the start, the length, the digits, their count
 
-flaws : (flaw_of [] ≡ Start)
-    × (flaw_of (ascii " from=guest bytes=0") ≡ Start)
-    × (flaw_of (start_of Guest ++ replicate 4097 103) ≡ Long)
-    × (flaw_of (start_of Host ++ replicate 4096 103) ≡ Digit)
-    × (flaw_of (ascii "from=guest bytes=07\r") ≡ Digit)
-    × (flaw_of (ascii "from=guest bytes=0A0") ≡ Digit)
-    × (flaw_of (ascii "from=host bytes=070") ≡ Odd)
-    × (flaw_of (ascii "from=host bytes=") ≡ Nothing)
-    × (flaw_of (start_of Guest ++ replicate 4096 48) ≡ Nothing)
-unfolding flaw_of starts_with all_hex
+flaws : (flaw_of [] ≡ Some Start)
+    × (flaw_of (ascii " from=guest bytes=0") ≡ Some Start)
+    × (flaw_of (start_of Guest ++ replicate 4097 103) ≡ Some Long)
+    × (flaw_of (start_of Host ++ replicate 4096 103) ≡ Some Digit)
+    × (flaw_of (ascii "from=guest bytes=07\r") ≡ Some Digit)
+    × (flaw_of (ascii "from=guest bytes=0A0") ≡ Some Digit)
+    × (flaw_of (ascii "from=host bytes=070") ≡ Some Odd)
+    × (flaw_of (ascii "from=host bytes=") ≡ None)
+    × (flaw_of (start_of Guest ++ replicate 4096 48) ≡ None)
+unfolding flaw_of starts_with
 flaws = (refl, refl, refl, refl, refl, refl, refl, refl, refl)
 
 -- ---- the report's lines
@@ -114,11 +113,11 @@ not_stopped = refl
 
 -- ---- standard error
 
-example-errors : error_lines 12 Odd true true
+example-errors : error_lines 12 (Some Odd) true true
     ≡ ascii "report: line 12: an odd count of digits\nreport: a read failed, and the input ends there\nreport: a write failed, and the output is not whole\n"
 unfolding error_lines flaw_line digits
 example-errors = refl
 
-no-errors : error_lines 12 Nothing false false ≡ []
+no-errors : error_lines 12 None false false ≡ []
 unfolding error_lines flaw_line
 no-errors = refl

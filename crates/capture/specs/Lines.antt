@@ -1,17 +1,18 @@
 -- Document 01, "Report program": what an input line offers, and the lines that the report writes.
 -- Assumes nothing: these are definitions.
-use Rattle.std.specs.Prelude.{ℕ, zero, suc, ◌+◌, ◌-◌, ◌*◌, ◌/◌, ◌%◌, ◌≡◌, Bool, true, false, cond, ◌&&◌, ◌||◌, List, [], ◌∷◌, ◌++◌, length, drop, eqb, leb, ltb}
+use Rattle.std.specs.Prelude.{ℕ, zero, suc, ◌+◌, ◌-◌, ◌*◌, ◌/◌, ◌%◌, ◌≤◌, ◌≡◌, Bool, true, false, cond, ◌&&◌, ◌||◌, List, [], ◌∷◌, ◌++◌, length, drop, eqb, leb, ltb, Option, Some, None, Result}
+use Rattle.std.specs.Result.{result_ok, result_err}
+use Rattle.std.specs.List.{list_all}
 use Prim.Native.Char.{code}
 use Prim.Native.String.{String, [] as []ˢ, ◌∷◌ as ◌∷ˢ◌}
-use Rattle.std.proofs.Math.Option.{Option, none, some}
 use Rattle.std.proofs.lemmas.List.Edits.{sets}
-use Rattle.octets.specs.Saturated.{saturated}
+use Rattle.std.specs.Borrow.{MutBor}
+use Rattle.octets.specs.Saturated.{largest, saturated}
 use Rattle.header.specs.declared.Side.{Side}
 use Rattle.header.specs.declared.Side.TheVariants.{Guest, Host}
 use Rattle.capture.specs.declared.Flaw.{Flaw}
-use Rattle.capture.specs.declared.Flaw.TheVariants.{Nothing}
-use Rattle.capture.specs.declared.Line.{Line}
-use Rattle.capture.specs.declared.Line.TheVariants.{Bad, Piece}
+use Rattle.capture.specs.declared.Piece.{Piece}
+use Rattle.capture.specs.declared.Text.{Text}
 
 -- the bytes of a text of ASCII characters
 abbrev pub ascii : String → List ℕ
@@ -47,9 +48,8 @@ hex_value b =
     (cond (between (code "a") (code "f") b) (b - code "a" + 10)
     0)
 
-unfoldable pub all_hex : List ℕ → Bool
-all_hex [] = true
-all_hex (b ∷ l) = is_hex b && all_hex l
+abbrev pub all_hex : List ℕ → Bool
+all_hex l = list_all is_hex l
 
 -- "lower case, an even count of hex digits, at most 4,096"
 abbrev pub is_spelling : List ℕ → Bool
@@ -67,33 +67,29 @@ pub record SentPiece : Type 0 where
   pub bytes : List ℕ
 
 abbrev pub piece_of : Side → List ℕ → Option SentPiece
-piece_of from l = cond (is_spelling l) (some (record { from = from; bytes = spelt l })) none
+piece_of from l = cond (is_spelling l) (Some (record { from = from; bytes = spelt l })) None
 
 -- what a line offers; one that can't be decoded offers nothing
 unfoldable pub line_of : List ℕ → Option SentPiece
 line_of l =
     cond (starts_with (start_of Guest) l) (piece_of Guest (drop (length (start_of Guest)) l))
     (cond (starts_with (start_of Host) l) (piece_of Host (drop (length (start_of Host)) l))
-    none)
+    None)
 
--- what is told: who sends the piece, and its size; or the flaw of a line that offers none
-abbrev pub told_of : Option SentPiece → Flaw → Line
-told_of none flaw = Bad flaw
-told_of (some p) flaw = Piece p.from (length p.bytes)
-
--- the flaw that is told; none with a piece
-abbrev pub flaw_told : Line → Flaw
-flaw_told (Bad flaw) = flaw
-flaw_told (Piece from n) = Nothing
+-- what is told: who sends the piece, and its size
+abbrev pub told_of : Option SentPiece → Option Piece
+told_of None = None
+told_of (Some p) = Some (record { from = p.from; size = length p.bytes })
 
 -- the bytes stand at the front of the output, as far as it goes; a bad line leaves it as it was
 abbrev pub laid_of : Option SentPiece → List ℕ → List ℕ
-laid_of none out = out
-laid_of (some p) out = sets out 0 p.bytes
+laid_of None out = out
+laid_of (Some p) out = sets out 0 p.bytes
 
-pub record Decodes (p : Option SentPiece) (flaw : Flaw) (out : List ℕ) (r : Line) (after : List ℕ) : Type 0 where
-  pub told : r ≡ told_of p flaw
-  pub why : flaw_told r ≡ flaw
+-- the piece that is offered is told, or the flaw of a line that offers none
+pub record Decodes (p : Option SentPiece) (flaw : Option Flaw) (out : List ℕ) (r : Result Piece Flaw) (after : List ℕ) : Type 0 where
+  pub told : result_ok r ≡ told_of p
+  pub why : result_err r ≡ flaw
   pub output : after ≡ laid_of p out
 
 -- ---- the report's lines, each with its newline
@@ -129,7 +125,18 @@ pub record Forms (line : List ℕ) (at : ℕ) (out : List ℕ) (r : ℕ) (after 
 
 -- ---- as the code forms a line
 
--- more of a line that starts at `at` and has k bytes so far; told is how many it has then, or the largest number
-pub record Adds (more : List ℕ) (at k : ℕ) (out : List ℕ) (r : ℕ) (after : List ℕ) : Type 0 where
-  pub size : r ≡ saturated k (length more)
-  pub output : after ≡ sets out (at + k) more
+-- a text at a place of the output, with nothing in it
+pub record Starts (out : MutBor (List ℕ)) (at : ℕ) (t : Text) : Type 0 where
+  pub same : t.out.ghost_name ≡ out.ghost_name
+  pub before : t.out.now ≡ out.now
+  pub start : t.at ≡ at
+  pub size : t.size ≡ 0
+  pub few : length out.now ≤ largest
+
+-- more of a text, behind what it has so far, as far as the output goes; it then has so many bytes, or the largest number
+pub record Adds (more : List ℕ) (t u : Text) : Type 0 where
+  pub same : u.out.ghost_name ≡ t.out.ghost_name
+  pub start : u.at ≡ t.at
+  pub size : u.size ≡ saturated t.size (length more)
+  pub output : u.out.now ≡ sets t.out.now (t.at + t.size) more
+  pub few : length t.out.now ≤ largest

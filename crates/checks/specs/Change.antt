@@ -1,7 +1,8 @@
 -- What a packet that passes does, as a change: by its class and, for a reply, by the request that it answers.
 -- Assumes nothing: these are definitions.
-use Rattle.std.specs.Prelude.{ℕ, Bool, true, false, cond, ◌&&◌, eqb}
-use Rattle.std.proofs.Math.Option.{Option, none, some}
+use Rattle.std.specs.Prelude.{ℕ, Bool, true, false, cond, ◌&&◌, eqb, Option, Some, None, Result, Ok, Err}
+use Rattle.header.specs.declared.Refusal.{Refusal}
+use Rattle.header.specs.Refusal as refusals
 use Rattle.device.specs.declared.Head.{Head}
 use Rattle.device.specs.declared.Rows.{Rows}
 use Rattle.device.specs.declared.Scope.{Scope}
@@ -15,8 +16,6 @@ use Rattle.checks.specs.declared.Change.{Change}
 use Rattle.checks.specs.declared.Change.TheVariants as changes
 use Rattle.checks.specs.declared.StreamMove.{StreamMove}
 use Rattle.checks.specs.declared.StreamMove.TheVariants.{Opens, Closes, Stalls}
-use Rattle.checks.specs.declared.Ruling.{Ruling}
-use Rattle.checks.specs.declared.Ruling.TheVariants.{Denied, Granted}
 use Rattle.checks.specs.Checks.{Match, Unmatched, Matched, match_of, number_of}
 
 -- "a status opens if it answers a start with 0 and otherwise closes"; at a stall the row's ids begin anew besides. A plain reply names no row that
@@ -51,13 +50,13 @@ scope_of e (Matched i q) =
 
 -- a place of the table, 96 where there is none
 abbrev pub place_or : Option ℕ → ℕ
-place_or none = places
-place_or (some i) = i
+place_or None = places
+place_or (Some i) = i
 
 -- the place of the request that a reply answers: "A passed reply frees the place"
-abbrev pub place_in : Match → ℕ
-place_in Unmatched = places
-place_in (Matched i q) = i
+abbrev pub place_in : Match → Option ℕ
+place_in Unmatched = None
+place_in (Matched i q) = Some i
 
 -- "take the lowest free place, with id, kind, endpoint or interface byte, and length"; "a passed start opens"
 abbrev pub change_by : Class → Requests → Event → Match → Change
@@ -81,9 +80,14 @@ change_by StreamIn t e m = changes.Seen (endpoint_in e.typed) e.request.id
 abbrev pub change_for : Requests → Event → Match → Change
 change_for t e m = change_by e.class t e m
 
--- a packet is refused by its number, or passes with its change
-abbrev pub ruled_by : ℕ → Change → Ruling
-ruled_by n c = cond (eqb n 0) (Granted c) (Denied n)
+-- a ruling, with the number for why it is refused
+abbrev pub numbered : Result Change Refusal → Result Change ℕ
+numbered (Ok c) = Ok c
+numbered (Err r) = Err (refusals.number_of r)
 
-unfoldable pub ruling_of : Head → Rows → Requests → Event → Ruling
+-- a packet is refused by its number, or passes with its change
+abbrev pub ruled_by : ℕ → Change → Result Change ℕ
+ruled_by n c = cond (eqb n 0) (Ok c) (Err n)
+
+unfoldable pub ruling_of : Head → Rows → Requests → Event → Result Change ℕ
 ruling_of h rows t e = ruled_by (number_of h rows t e) (change_for t e (match_of t e))

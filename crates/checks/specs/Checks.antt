@@ -1,7 +1,6 @@
 -- The session checks 25 to 34: each beside its sentence of document 01, and the number, which is the first of them that holds.
 -- Assumes nothing: these are definitions.
-use Rattle.std.specs.Prelude.{ℕ, Bool, true, false, cond, not, ◌&&◌, ◌||◌, List, [], ◌∷◌, eqb, ltb}
-use Rattle.std.proofs.Math.Option.{Option, none, some}
+use Rattle.std.specs.Prelude.{ℕ, Bool, true, false, cond, not, ◌&&◌, ◌||◌, List, [], ◌∷◌, eqb, ltb, Option, Some, None, is_some}
 use Rattle.device.specs.declared.Introduction.{Introduction}
 use Rattle.device.specs.declared.Introduction.TheVariants.{Unintroduced, One, Two}
 use Rattle.device.specs.declared.Head.{Head}
@@ -9,7 +8,7 @@ use Rattle.device.specs.declared.Rows.{Rows}
 use Rattle.device.specs.Device.{state_at, mask_mistyped}
 use Rattle.requests.specs.declared.Request.{Request}
 use Rattle.requests.specs.declared.Requests.{Requests}
-use Rattle.requests.specs.Requests.{is_some, Free, Id, Settling, Answered, lowest, place_at}
+use Rattle.requests.specs.Requests.{Free, Id, Settling, Answered, lowest, place_at}
 use Rattle.events.specs.Meaning.{Class, Hello, Connect, Interfaces, Endpoints, Disconnect, Reset, Ack, Cancel, Filter, StartRequest, PlainRequest, StreamStatus, PlainReply, StreamOut, StreamIn}
 use Rattle.events.specs.declared.Typed.{Typed}
 use Rattle.events.specs.declared.Typed.TheVariants.{Untyped, OfEndpoint, OfMask}
@@ -153,8 +152,8 @@ pub data Match : Type 0 where
   Matched : ℕ → Request → Match
 
 abbrev pub match_in : Requests → Option ℕ → Match
-match_in t none = Unmatched
-match_in t (some i) = Matched i (place_at t i).request
+match_in t None = Unmatched
+match_in t (Some i) = Matched i (place_at t i).request
 
 unfoldable pub match_of : Requests → Event → Match
 match_of t e = cond (traits_of e.class).reply (match_in t (lowest t (Answered e.request e.answers))) Unmatched

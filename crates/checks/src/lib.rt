@@ -1,20 +1,17 @@
-// The session checks 25 to 34: a packet's case is ruled on over the columns of the session, which are lent.
+// The session checks 25 to 34: a packet's case is ruled on over the session's head, rows and requests.
 #![tactic(auto)]
 
 ghost use Rattle.std.specs.Prelude.{◌≡◌, cond};
-ghost use Rattle.device.specs.declared.Rows.{Rows};
-ghost use Rattle.requests.specs.declared.Requests.{Requests};
-ghost use Rattle.requests.specs.Requests.{Id, lowest, Lent};
+ghost use Rattle.requests.specs.Requests.{Id, lowest};
 ghost use Rattle.checks.specs.Checks.{is_begun, is_done, mistyped_by};
 ghost use Rattle.checks.specs.Change.{move_by};
-ghost use Rattle.checks.specs.Ruled.{asked_by, unmatched, scope_to, settled_by, settled_in, awaited, replied_in, streamed_by, ruled};
-ghost use Rattle.checks.specs.declared.Ruling.TheVariants.{Granted, Denied};
-ghost use Rattle.events.specs.declared.Case.TheVariants as cases;
+ghost use Rattle.checks.specs.Ruled.{connected_by, introduced_by, asked_by, unmatched, scope_to, is_answered, replied_in, streamed_by, ruled};
 
-use device::{Head, Introduction, Scope, is_streaming, mask_mistyped, type_at};
+use device::{Head, Introduction, Rows, Scope};
 use endpoint::Endpoint;
 use events::{Case, Reply, Typed, is_stall, is_success};
-use requests::{FoundPlace, PLACES, Request, Slot, find_free, find_id, is_settling, kind_at};
+use header::Refusal;
+use requests::{Request, Requests, Slot};
 
 // What a packet that passes does.
 #[derive(Clone, Copy)]
@@ -34,8 +31,9 @@ pub enum Change {
     Take(usize, Request),
     // and opens the stream of its row
     TakeAndOpen(usize, Request, Typed),
-    // a reply frees a place, 96 for none; what it does to the stream of its row; the rows whose data requests and streams end with it
-    Release(usize, Typed, StreamMove, Scope),
+    // a reply frees a place, if it has one; what it does to the stream of its row; the rows whose data requests and
+    // streams end with it
+    Release(Option<usize>, Typed, StreamMove, Scope),
 }
 
 // What a status does to the stream of its row: it closes it, opens it, or closes it by a stall.
@@ -46,148 +44,122 @@ pub enum StreamMove {
     Stalls,
 }
 
-#[derive(Clone, Copy)]
-pub enum Ruling {
-    Denied(u8),
-    Granted(Change),
-    // a reply whose request is at a place, the slot of which decides: what it has to have; then what the reply does, as in Release
-    Pending(usize, Expected, Typed, StreamMove, Scope),
-}
-
-// What the slot of a request has to have for its reply to pass: a length of at least this, and this endpoint or interface byte where
-// it is compared; and whether the reply may come unasked.
-#[derive(Clone, Copy)]
-pub struct Expected {
-    pub length: u32,
-    pub target: u8,
-    pub targeted: bool,
-    pub unasked: bool,
-}
-
+// Named as its definition is.
 fn is_begun(i: Introduction) -> bool
     ensures { result ≡ is_begun i }
 {
-    match i {
-        Introduction::Unintroduced => false,
-        Introduction::One => true,
-        Introduction::Two => true,
-    }
+    matches!(i, Introduction::One | Introduction::Two)
 }
 
 fn is_done(i: Introduction) -> bool
     ensures { result ≡ is_done i }
 {
-    match i {
-        Introduction::Unintroduced => false,
-        Introduction::One => false,
-        Introduction::Two => true,
+    matches!(i, Introduction::Two)
+}
+
+// 25
+fn with_device(h: &Head) -> Result<(), Refusal>
+    ensures { result ≡ cond h.now.present (Ok tt) (Err Refusal.NoDevice) }
+{
+    if h.present {
+        Ok(())
+    } else {
+        Err(Refusal::NoDevice)
     }
 }
 
-// 28
-fn is_mistyped(types: &[u8; 32], typed: Typed) -> bool
-    ensures { (d : Rows) → d.types ≡ types.now → result ≡ mistyped_by d typed }
+// 27
+fn without_ack(h: &Head) -> Result<(), Refusal>
+    ensures { result ≡ cond h.now.owed (Err Refusal.AckOwed) (Ok tt) }
 {
-    match typed {
-        Typed::Untyped => false,
-        Typed::OfEndpoint(e, ty) => type_at(types, e) != ty,
-        Typed::OfMask(mask, ty) => mask_mistyped(types, mask, ty),
+    if h.owed {
+        Err(Refusal::AckOwed)
+    } else {
+        Ok(())
     }
 }
 
 // 27, 26
-fn rule_connect(h: Head) -> Ruling
-    ensures { (d : Rows) (t : Requests) → result ≡ ruled h d t cases.Connect }
+fn rule_connect(h: &Head) -> Result<Change, Refusal>
+    ensures { result ≡ connected_by h.now }
 {
-    if h.owed {
-        return Ruling::Denied(27);
+    without_ack(h)?;
+    if h.present | !is_done(h.introduction) {
+        return Err(Refusal::OutOfOrder);
     }
-    let i = h.introduction;
-    if h.present | !is_done(i) {
-        return Ruling::Denied(26);
-    }
-    Ruling::Granted(Change::Connect)
+    Ok(Change::Connect)
 }
 
-fn rule_interfaces(h: Head) -> Ruling
-    ensures { (d : Rows) (t : Requests) → result ≡ ruled h d t cases.Interfaces }
+fn rule_interfaces(h: &Head) -> Result<Change, Refusal>
+    ensures { result ≡ introduced_by h.now }
 {
-    if h.owed {
-        return Ruling::Denied(27);
+    without_ack(h)?;
+    if !h.present & !is_begun(h.introduction) {
+        return Err(Refusal::OutOfOrder);
     }
-    let i = h.introduction;
-    if !h.present & !is_begun(i) {
-        return Ruling::Denied(26);
+    Ok(Change::Interfaces)
+}
+
+// 28
+fn is_mistyped(rows: &Rows, typed: Typed) -> bool
+    ensures { result ≡ mistyped_by rows.now typed }
+{
+    match typed {
+        Typed::Untyped => false,
+        Typed::OfEndpoint(e, ty) => rows.type_of(e) != ty,
+        Typed::OfMask(mask, ty) => rows.has_mistyped(mask, ty),
     }
-    Ruling::Granted(Change::Interfaces)
 }
 
 // 28, 29, 31, 32
-fn rule_request<'a>(
-    types: &'a [u8; 32],
-    used: usize,
-    live: &'a [bool; PLACES],
-    kinds: &'a [u8; PLACES],
-    ids: &'a [u64; PLACES],
+fn rule_request(
+    rows: &Rows,
+    requests: &Requests,
     q: Request,
     typed: Typed,
     starts: bool,
     transfer: bool,
-) -> Ruling
-    ensures { (d : Rows) (t : Requests) → d.types ≡ types.now → Lent t used live.now kinds.now ids.now → result ≡ asked_by d t q typed starts transfer }
+) -> Result<Change, Refusal>
+    ensures { result ≡ asked_by rows.now requests.now q typed starts transfer }
 {
-    if is_mistyped(types, typed) {
-        return Ruling::Denied(28);
+    if is_mistyped(rows, typed) {
+        return Err(Refusal::WrongType);
     }
-    if transfer {
-        if is_settling(used, live, kinds) {
-            return Ruling::Denied(29);
-        }
+    if transfer && requests.is_settling() {
+        return Err(Refusal::Settling);
     }
-    let same = find_id(used, live, ids, q.id);
-    match same {
-        FoundPlace::AtPlace(_) => Ruling::Denied(31),
-        FoundPlace::NoPlace => {
-            let f = find_free(used, live);
-            match f {
-                FoundPlace::AtPlace(i) => {
-                    if starts {
-                        Ruling::Granted(Change::TakeAndOpen(i, q, typed))
-                    } else {
-                        Ruling::Granted(Change::Take(i, q))
-                    }
-                }
-                FoundPlace::NoPlace => Ruling::Denied(32),
-            }
-        }
+    if requests.find_id(q.id).is_some() {
+        return Err(Refusal::IdInUse);
+    }
+    let i = requests.find_free().ok_or(Refusal::TableFull)?;
+    if starts {
+        Ok(Change::TakeAndOpen(i, q, typed))
+    } else {
+        Ok(Change::Take(i, q))
     }
 }
 
 // 33, where no request is answered
-fn rule_unmatched(typed: Typed, unasked: bool) -> Ruling
-    ensures { result ≡ unmatched typed unasked }
+fn rule_unmatched(typed: Typed, alone: bool) -> Result<Change, Refusal>
+    ensures { result ≡ unmatched typed alone }
 {
-    if unasked {
-        return Ruling::Granted(Change::Release(PLACES, typed, StreamMove::Stalls, Scope::NoRow));
+    if alone {
+        return Ok(Change::Release(None, typed, StreamMove::Stalls, Scope::NoRow));
     }
-    Ruling::Denied(33)
+    Err(Refusal::NoSuchRequest)
 }
 
 // What else a reply to a request of this kind ends.
 fn scope_to(r: Reply, kind: u8) -> Scope
     ensures { result ≡ scope_to r kind }
 {
-    let told = r.told;
     if !is_success(r.status) {
         return Scope::NoRow;
     }
-    if kind == 6 {
-        return Scope::EveryRow;
-    }
-    if kind == 9 {
-        Scope::OfInterface(told.target)
-    } else {
-        Scope::NoRow
+    match kind {
+        6 => Scope::EveryRow,
+        9 => Scope::OfInterface(r.told.target),
+        _ => Scope::NoRow,
     }
 }
 
@@ -205,206 +177,105 @@ fn move_by(status: u8, start: bool) -> StreamMove
     }
 }
 
-// A reply waits for the slot of the request with its id.
-fn rule_reply<'a>(
-    used: usize,
-    live: &'a [bool; PLACES],
-    kinds: &'a [u8; PLACES],
-    ids: &'a [u64; PLACES],
-    r: Reply,
-    typed: Typed,
-    unasked: bool,
-) -> Ruling
-    ensures { (t : Requests) → Lent t used live.now kinds.now ids.now → result ≡ replied_in t r typed unasked (lowest t (Id r.told.id)) }
+// A reply answers a request of this kind and with this slot.
+fn is_answered(r: Reply, kind: u8, slot: Slot) -> bool
+    ensures { result ≡ is_answered r kind slot }
 {
-    let told = r.told;
     let a = r.answers;
-    let alone = unasked & (told.id == 0) & is_stall(r.status);
-    let f = find_id(used, live, ids, told.id);
-    match f {
-        FoundPlace::AtPlace(i) => {
-            let kind = kind_at(kinds, i);
-            if (kind == a.first) | (kind == a.second) {
-                let x = Expected {
-                    length: told.length,
-                    target: told.target,
-                    targeted: a.targeted,
-                    unasked: alone,
-                };
-                let stream = move_by(r.status, kind == a.first);
-                return Ruling::Pending(i, x, typed, stream, scope_to(r, kind));
-            }
-            rule_unmatched(typed, alone)
-        }
-        FoundPlace::NoPlace => rule_unmatched(typed, alone),
-    }
+    ((kind == a.first) | (kind == a.second)) & (!a.targeted | (slot.target == r.told.target))
 }
 
-// 33, 34, by the slot of the request that has the reply's id
-fn settle_reply(
-    i: usize,
-    x: Expected,
-    typed: Typed,
-    stream: StreamMove,
-    scope: Scope,
-    slot: Slot,
-) -> Ruling
-    ensures { result ≡ settled_by i x typed stream scope slot }
+// 33, 34, by the request with the reply's id
+fn rule_reply(requests: &Requests, r: Reply, typed: Typed, unasked: bool) -> Result<Change, Refusal>
+    ensures { result ≡ replied_in requests.now r typed unasked (lowest requests.now (Id r.told.id)) }
 {
-    if x.targeted & (slot.target != x.target) {
-        return rule_unmatched(typed, x.unasked);
+    let alone = unasked & (r.told.id == 0) & is_stall(r.status);
+    let Some(i) = requests.find_id(r.told.id) else {
+        return rule_unmatched(typed, alone);
+    };
+    let kind = requests.kind_at(i);
+    let slot = requests.slot_at(i);
+    if !is_answered(r, kind, slot) {
+        return rule_unmatched(typed, alone);
     }
-    if slot.length < x.length {
-        return Ruling::Denied(34);
+    if slot.length < r.told.length {
+        return Err(Refusal::ReplyTooLong);
     }
-    Ruling::Granted(Change::Release(i, typed, stream, scope))
-}
-
-// The place whose slot a ruling waits for, 96 where it waits for none.
-pub fn awaited_place(u: Ruling) -> usize
-    ensures { result ≡ awaited u }
-{
-    match u {
-        Ruling::Denied(_) => PLACES,
-        Ruling::Granted(_) => PLACES,
-        Ruling::Pending(i, _, _, _, _) => i,
-    }
-}
-
-// A ruling with the slot that it waits for.
-pub fn settle_ruling(u: Ruling, slot: Slot) -> Ruling
-    ensures { result ≡ settled_in u slot }
-{
-    match u {
-        Ruling::Denied(n) => Ruling::Denied(n),
-        Ruling::Granted(c) => Ruling::Granted(c),
-        Ruling::Pending(i, x, typed, stream, scope) => {
-            settle_reply(i, x, typed, stream, scope, slot)
-        }
-    }
+    let stream = move_by(r.status, kind == r.answers.first);
+    Ok(Change::Release(Some(i), typed, stream, scope_to(r, kind)))
 }
 
 // 28 to 30, of data on a stream that does this where it passes
-fn rule_stream<'a>(
-    types: &'a [u8; 32],
-    streams: &'a [bool; 32],
-    used: usize,
-    live: &'a [bool; PLACES],
-    kinds: &'a [u8; PLACES],
+fn rule_stream(
+    rows: &Rows,
+    requests: &Requests,
     e: Endpoint,
     ty: u8,
     transfer: bool,
     c: Change,
-) -> Ruling
-    ensures { (d : Rows) (t : Requests) → d.types ≡ types.now → d.streams ≡ streams.now → t.used ≡ used → t.live ≡ live.now → t.kinds ≡ kinds.now → result ≡ streamed_by d t e ty transfer c }
+) -> Result<Change, Refusal>
+    ensures { result ≡ streamed_by rows.now requests.now e ty transfer c }
 {
-    if type_at(types, e) != ty {
-        return Ruling::Denied(28);
+    if rows.type_of(e) != ty {
+        return Err(Refusal::WrongType);
     }
-    if transfer {
-        if is_settling(used, live, kinds) {
-            return Ruling::Denied(29);
-        }
+    if transfer && requests.is_settling() {
+        return Err(Refusal::Settling);
     }
-    if is_streaming(streams, e) {
-        Ruling::Granted(c)
-    } else {
-        Ruling::Denied(30)
+    if !rows.is_streaming(e) {
+        return Err(Refusal::StreamClosed);
     }
+    Ok(c)
 }
 
-fn needs_device(present: bool, c: Change) -> Ruling
-    ensures { result ≡ cond present (Granted c) (Denied 25) }
-{
-    if present {
-        Ruling::Granted(c)
-    } else {
-        Ruling::Denied(25)
-    }
-}
-
-// Rules on a packet by its case; a reply may be left to the slot of a place.
-pub fn rule<'a>(
-    h: Head,
-    types: &'a [u8; 32],
-    streams: &'a [bool; 32],
-    used: usize,
-    live: &'a [bool; PLACES],
-    kinds: &'a [u8; PLACES],
-    ids: &'a [u64; PLACES],
-    c: Case,
-) -> Ruling
-    ensures { (d : Rows) (t : Requests) → d.types ≡ types.now → d.streams ≡ streams.now → Lent t used live.now kinds.now ids.now → result ≡ ruled h d t c }
+// Rules on a packet by its case.
+#[tactic(auto, unfolding(crate::specs::Ruled::ruled))]
+pub fn rule(h: Head, rows: &Rows, requests: &Requests, c: Case) -> Result<Change, Refusal>
+    ensures { result ≡ ruled h rows.now requests.now c }
 {
     match c {
-        Case::Hello(word) => Ruling::Granted(Change::Hello(word)),
-        Case::Connect => rule_connect(h),
-        Case::Interfaces => rule_interfaces(h),
+        Case::Hello(word) => Ok(Change::Hello(word)),
+        Case::Connect => rule_connect(&h),
+        Case::Interfaces => rule_interfaces(&h),
         Case::Endpoints => {
-            if h.owed {
-                Ruling::Denied(27)
-            } else {
-                Ruling::Granted(Change::Endpoints)
-            }
+            without_ack(&h)?;
+            Ok(Change::Endpoints)
         }
-        Case::Disconnect => needs_device(h.present, Change::Disconnect),
-        Case::Reset => needs_device(h.present, Change::Reset),
+        Case::Disconnect => {
+            with_device(&h)?;
+            Ok(Change::Disconnect)
+        }
+        Case::Reset => {
+            with_device(&h)?;
+            Ok(Change::Reset)
+        }
         Case::Ack => {
             if h.owed {
-                Ruling::Granted(Change::Acknowledge)
+                Ok(Change::Acknowledge)
             } else {
-                Ruling::Denied(26)
+                Err(Refusal::OutOfOrder)
             }
         }
-        Case::Cancel => needs_device(h.present, Change::NoChange),
-        Case::Filter => Ruling::Granted(Change::NoChange),
+        Case::Cancel => {
+            with_device(&h)?;
+            Ok(Change::NoChange)
+        }
+        Case::Filter => Ok(Change::NoChange),
         Case::Asks(q, typed, starts, transfer) => {
-            if h.present {
-                rule_request(types, used, live, kinds, ids, q, typed, starts, transfer)
-            } else {
-                Ruling::Denied(25)
-            }
+            with_device(&h)?;
+            rule_request(rows, requests, q, typed, starts, transfer)
         }
         Case::Answers(r, typed, unasked) => {
-            if h.present {
-                rule_reply(used, live, kinds, ids, r, typed, unasked)
-            } else {
-                Ruling::Denied(25)
-            }
+            with_device(&h)?;
+            rule_reply(requests, r, typed, unasked)
         }
         Case::StreamsOut(e, ty, transfer) => {
-            if h.present {
-                rule_stream(
-                    types,
-                    streams,
-                    used,
-                    live,
-                    kinds,
-                    e,
-                    ty,
-                    transfer,
-                    Change::NoChange,
-                )
-            } else {
-                Ruling::Denied(25)
-            }
+            with_device(&h)?;
+            rule_stream(rows, requests, e, ty, transfer, Change::NoChange)
         }
         Case::StreamsIn(e, ty, id) => {
-            if h.present {
-                rule_stream(
-                    types,
-                    streams,
-                    used,
-                    live,
-                    kinds,
-                    e,
-                    ty,
-                    false,
-                    Change::Seen(e, id),
-                )
-            } else {
-                Ruling::Denied(25)
-            }
+            with_device(&h)?;
+            rule_stream(rows, requests, e, ty, false, Change::Seen(e, id))
         }
     }
 }

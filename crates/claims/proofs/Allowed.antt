@@ -1,11 +1,12 @@
 -- The judge passes a packet exactly when it is allowed (`allowed-exactly`), and gives each other number exactly where its check is the first that fails
 -- (`number-in-words`): a check of `checks_by` fails exactly where its relation holds.
 -- Assumes nothing.
+use Rattle.std.specs.Prelude.{Option, Some, None, is_some}
 use Prim.Native.Nat.{ℕ, ◌≤◌, ◌<◌}
 use mathlib.Core.Bool.{Bool, true, false, not, ◌&&◌, ◌||◌, true≢false, false≢true}
 use mathlib.Core.List.{List, [], ◌∷◌}
 use mathlib.Core.Logic.{◌↔◌, ◌⊎◌, inl, inr}
-use mathlib.Core.Option.{Option, none, some, none-ne-some}
+use Rattle.std.proofs.lemmas.Option.{none-some}
 use mathlib.Core.Path.{◌≡◌, refl, sym, ap, subst, ◌∙◌}
 use lib.ListN.{length}
 use lib.Dec.{eqb, leb}
@@ -23,7 +24,7 @@ use Rattle.device.specs.declared.Introduction.TheVariants.{Unintroduced, Two, On
 use Rattle.device.specs.Device.{bulk, state_at}
 use Rattle.device.proofs.RowChanges.{mask-absent, mask-none}
 use Rattle.requests.specs.declared.Requests.{Requests}
-use Rattle.requests.specs.Requests.{Place, places_of, free_place, place_at, lowest, is_some, Query, Free, Id, Settling, meets, ids_differ}
+use Rattle.requests.specs.Requests.{Place, places_of, free_place, place_at, lowest, Query, Free, Id, Settling, meets, ids_differ}
 use Rattle.requests.proofs.Places.{differ-when, places-length, places-at, lowest-found, lowest-some, lowest-none}
 use Rattle.events.specs.Event.{field, event_of}
 use Rattle.checks.specs.Checks.{is_begun, is_done, mistyped_by, Check, ◌when◌, first_of}
@@ -78,19 +79,19 @@ module _ (t : Requests) (q : Query) where
   some_at h = go (lowest t q) refl h
     where
       go : (o : Option ℕ) → lowest t q ≡ o → is_some o ≡ true → (i : ℕ) × (i < 96) × (meets q (place_at t i) ≡ true)
-      go none e f = absurd (false≢true f)
-      go (some i) e f = let r = lowest-found t q i e in (i, r.0, r.1)
+      go None e f = absurd (false≢true f)
+      go (Some i) e f = let r = lowest-found t q i e in (i, r.0, r.1)
 
 -- ---- kinds and introductions
 
 -- a mask's kind wants no type of an endpoint
-mask-wants : (from : Side) (kind : ℕ) (inward : Bool) → among (18 ∷ 19 ∷ []) kind ≡ true → wants from kind inward ≡ none
+mask-wants : (from : Side) (kind : ℕ) (inward : Bool) → among (18 ∷ 19 ∷ []) kind ≡ true → wants from kind inward ≡ None
 mask-wants from kind inward h = go from (one_of_two 18 19 kind h)
   where
-    at : (from : Side) (n : ℕ) → kind ≡ n → wants from n inward ≡ none → wants from kind inward ≡ none
+    at : (from : Side) (n : ℕ) → kind ≡ n → wants from n inward ≡ None → wants from kind inward ≡ None
     at from n e f = ap (λ (k : ℕ). wants from k inward) e ∙ f
 
-    go : (from : Side) → (kind ≡ 18) ⊎ (kind ≡ 19) → wants from kind inward ≡ none
+    go : (from : Side) → (kind ≡ 18) ⊎ (kind ≡ 19) → wants from kind inward ≡ None
     go Guest (inl e) = at Guest 18 e refl
     go Guest (inr e) = at Guest 19 e refl
     go Host (inl e) = at Host 18 e refl
@@ -165,18 +166,18 @@ module _ (s : Session) (from : Side) (p : Content) where
   typed : mistyped_by s.rows (typed_by from p) ≡ false → RightType s from p
   typed h = record { type = one_type; types = λ m r l b. mask-absent s.rows (field "mask" p) bulk (sym (rw m) ∙ h) r l b }
     where
-      one_type : (k : ℕ) → wants from p.kind (inward_of p) ≡ some k → (state_at s.rows (endpoint_named p)).ty ≡ k
+      one_type : (k : ℕ) → wants from p.kind (inward_of p) ≡ Some k → (state_at s.rows (endpoint_named p)).ty ≡ k
       one_type k w =
           cases (among (18 ∷ 19 ∷ []) p.kind)
-          (λ m. absurd (none-ne-some k (sym (mask-wants from p.kind (inward_of p) m) ∙ w)))
+          (λ m. absurd (none-some k (sym (mask-wants from p.kind (inward_of p) m) ∙ w)))
           (λ m. eqb-true (state_at s.rows (endpoint_named p)).ty k (not-false _ (sym (rw (m, w)) ∙ h)))
 
   typing : RightType s from p → mistyped_by s.rows (typed_by from p) ≡ false
   typing r = cases (among (18 ∷ 19 ∷ []) p.kind) (λ m. rw m (mask-none s.rows (field "mask" p) bulk (r.types m))) (λ m. rw m (wanted (wants from p.kind (inward_of p)) refl))
     where
       wanted : (o : Option ℕ) → wants from p.kind (inward_of p) ≡ o → mistyped_by s.rows (row_by o p) ≡ false
-      wanted none w = refl
-      wanted (some k) w = false-not _ (eq-eqb _ k (r.type k w))
+      wanted None w = refl
+      wanted (Some k) w = false-not _ (eq-eqb _ k (r.type k w))
 
   pub type-is : (mistyped_by s.rows (typed_by from p) ≡ false) ↔ RightType s from p
   type-is = (typed, typing)
@@ -238,12 +239,12 @@ module _ (s : Session) (from : Side) (p : Content) where
       and-whole (place_at t i).live _ w.live
       (and-whole _ _ (and-whole _ _ (eq-eqb q.id p.id w.id) w.kind) (implying (carries_target p.kind) _ (λ c. eq-eqb q.target (reply_target p) (w.target c))))
 
-  pub found : (i : ℕ) → answered_at t p ≡ some i → AnsweredBy t p i
+  pub found : (i : ℕ) → answered_at t p ≡ Some i → AnsweredBy t p i
   found i e =
       let r = first_found asked (places_of t) i free_place e in
       asked_by_lem i (rw (places-length t) at r.0) (sym (ap asked (places-at t i)) ∙ r.1)
 
-  pub unfound : answered_at t p ≡ none → (i : ℕ) → AnsweredBy t p i → ⊥
+  pub unfound : answered_at t p ≡ None → (i : ℕ) → AnsweredBy t p i → ⊥
   unfound e i w =
       let r = first_absent asked (places_of t) free_place e i (rw (places-length t) w.place) in
       false≢true (sym r ∙ ap asked (places-at t i) ∙ by-asked i w)
@@ -258,8 +259,8 @@ module _ (s : Session) (from : Side) (p : Content) where
   was-asked h r = go (answered_at t p) refl
     where
       go : (o : Option ℕ) → answered_at t p ≡ o → ((i : ℕ) × AnsweredBy t p i) ⊎ Unsolicited t p
-      go (some i) e = inl (i, found i e)
-      go none e =
+      go (Some i) e = inl (i, found i e)
+      go None e =
           let u : alone ≡ true = not-false alone (fails (reply && not (is_some (answered_at t p))) (not alone) h (and-whole reply _ r (ap (λ (o : Option ℕ). not (is_some o)) e))) in
           let w = and_parts (among (14 ∷ 17 ∷ 27 ∷ []) p.kind && eqb p.id 0) (stalled p) u in
           let x = and_parts (among (14 ∷ 17 ∷ 27 ∷ []) p.kind) (eqb p.id 0) w.0 in
@@ -269,8 +270,8 @@ module _ (s : Session) (from : Side) (p : Content) where
   asking f = failing (reply && not (is_some (answered_at t p))) (not alone) (λ x. let q = and_parts reply (not (is_some (answered_at t p))) x in go (f q.0) (not-true _ q.1))
     where
       lost : (i : ℕ) → AnsweredBy t p i → (o : Option ℕ) → answered_at t p ≡ o → is_some o ≡ false → ⊥
-      lost i w none e n = unfound e i w
-      lost i w (some j) e n = true≢false n
+      lost i w None e n = unfound e i w
+      lost i w (Some j) e n = true≢false n
 
       go : ((i : ℕ) × AnsweredBy t p i) ⊎ Unsolicited t p → is_some (answered_at t p) ≡ false → not alone ≡ false
       go (inl w) n = absurd (lost w.0 w.1 (answered_at t p) refl n)
@@ -284,8 +285,8 @@ module _ (s : Session) (from : Side) (p : Content) where
     not-longer h r i w = go (answered_at t p) refl (fails reply _ h r)
       where
         go : (o : Option ℕ) → answered_at t p ≡ o → longer_than t p o ≡ false → count_of p ≤ (place_at t i).request.length
-        go none e n = absurd (unfound e i w)
-        go (some j) e n =
+        go None e n = absurd (unfound e i w)
+        go (Some j) e n =
             let v = found j e in
             subst (λ (k : ℕ). count_of p ≤ (place_at t k).request.length) (ids j i v.live w.live (v.id ∙ sym w.id)) (ltb-false (place_at t j).request.length (count_of p) n)
 
@@ -293,8 +294,8 @@ module _ (s : Session) (from : Side) (p : Content) where
     short-enough f = failing reply _ (λ r. go (f r) (answered_at t p) refl)
       where
         go : ((i : ℕ) → AnsweredBy t p i → count_of p ≤ (place_at t i).request.length) → (o : Option ℕ) → answered_at t p ≡ o → longer_than t p o ≡ false
-        go g none e = refl
-        go g (some j) e = le-ltb (place_at t j).request.length (count_of p) (g j (found j e))
+        go g None e = refl
+        go g (Some j) e = le-ltb (place_at t j).request.length (count_of p) (g j (found j e))
 
     pub short-is : ((reply && longer_than t p (answered_at t p)) ≡ false) ↔ NotLonger s from p
     short-is = (not-longer, short-enough)

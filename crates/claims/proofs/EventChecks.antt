@@ -1,10 +1,10 @@
 -- The session checks by events: the judge's number is theirs (`number_is`), it is 0 exactly where none holds (`no-check-holds`, `holds-none`), and what
 -- each asks of a packet's event is what the lists of kind numbers say.
 -- Assumes nothing.
+use Rattle.std.specs.Prelude.{Some}
 use Prim.Native.Nat.{ℕ}
 use mathlib.Core.Bool.{Bool, true, false, cond, not, ◌&&◌, ◌||◌, false≢true, true≢false}
 use mathlib.Core.List.{[], ◌∷◌}
-use mathlib.Core.Option.{some}
 use mathlib.Core.Path.{◌≡◌, refl, sym, ap, ◌∙◌}
 use mathlib.Core.Logic.{◌⊎◌, inl, inr}
 use lib.Dec.{eqb}
@@ -99,18 +99,18 @@ one_of_two m n k h = cases (eqb k m) (λ e. inl (eqb-true k m e)) (λ e. inr (ot
     other e = cases (eqb k n) (λ f. eqb-true k n f) (λ f. absurd (false≢true (sym (or-none (eqb k m) (eqb k n || false) e (or-none (eqb k n) false f refl)) ∙ h)))
 
 -- what comes on a stream wants a type of its endpoint
-stream-wants : (from : Side) (kind : ℕ) (inward : Bool) → comes_on_stream from kind inward ≡ true → (k : ℕ) × (wants from kind inward ≡ some k)
+stream-wants : (from : Side) (kind : ℕ) (inward : Bool) → comes_on_stream from kind inward ≡ true → (k : ℕ) × (wants from kind inward ≡ Some k)
 stream-wants from kind inward h = cases (among (102 ∷ 104 ∷ []) kind) (λ e. listed from (one_of_two 102 104 kind e)) (λ e. interrupt-in from inward e h)
   where
-    at : (from : Side) (inward : Bool) (n k : ℕ) → kind ≡ n → wants from n inward ≡ some k → (k : ℕ) × (wants from kind inward ≡ some k)
+    at : (from : Side) (inward : Bool) (n k : ℕ) → kind ≡ n → wants from n inward ≡ Some k → (k : ℕ) × (wants from kind inward ≡ Some k)
     at from inward n k e f = (k, ap (λ (m : ℕ). wants from m inward) e ∙ f)
 
-    listed : (from : Side) → (kind ≡ 102) ⊎ (kind ≡ 104) → (k : ℕ) × (wants from kind inward ≡ some k)
+    listed : (from : Side) → (kind ≡ 102) ⊎ (kind ≡ 104) → (k : ℕ) × (wants from kind inward ≡ Some k)
     listed from (inl e) = at from inward 102 1 e refl
     listed Guest (inr e) = at Guest inward 104 2 e refl
     listed Host (inr e) = at Host inward 104 2 e refl
 
-    interrupt-in : (from : Side) (inward : Bool) → among (102 ∷ 104 ∷ []) kind ≡ false → comes_on_stream from kind inward ≡ true → (k : ℕ) × (wants from kind inward ≡ some k)
+    interrupt-in : (from : Side) (inward : Bool) → among (102 ∷ 104 ∷ []) kind ≡ false → comes_on_stream from kind inward ≡ true → (k : ℕ) × (wants from kind inward ≡ Some k)
     interrupt-in Guest inward e f = absurd (false≢true (sym (or-none (among (102 ∷ 104 ∷ []) kind) false e refl) ∙ f))
     interrupt-in Host false e f = absurd (false≢true (sym (or-none (among (102 ∷ 104 ∷ []) kind) (eqb kind 103 && false) e (failing (eqb kind 103) false (λ z. refl))) ∙ f))
     interrupt-in Host true e f = cases (eqb kind 103) (λ g. at Host true 103 3 (eqb-true kind 103 g) refl) (λ g. absurd (false≢true (sym (or-none (among (102 ∷ 104 ∷ []) kind) (eqb kind 103 && true) e (failing (eqb kind 103) true (λ z. absurd (false≢true (sym g ∙ z))))) ∙ f)))

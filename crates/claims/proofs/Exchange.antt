@@ -2,10 +2,10 @@
 -- `agrees` takes the laws of `OnePacket.antt` and `EventChecks.antt`, which speak of events, to kind numbers; what ends with a 9 is of its interface,
 -- since only an 11 answers it, and names that (`same-interface`).
 -- Assumes nothing.
+use Rattle.std.specs.Prelude.{Option, Some, None, is_some}
 use Prim.Native.Nat.{ℕ, ◌≤◌}
 use mathlib.Core.Bool.{Bool, true, false, cond, not, ◌&&◌, ◌||◌, false≢true, or-true}
 use mathlib.Core.List.{[], ◌∷◌}
-use mathlib.Core.Option.{Option, none, some}
 use mathlib.Core.Path.{◌≡◌, refl, sym, ap, subst, ◌∙◌}
 use mathlib.Core.Logic.{◌⊎◌, ◌↔◌, inl, inr}
 use lib.Dec.{eqb, leb}
@@ -19,7 +19,7 @@ use Rattle.device.specs.Device.{touched}
 use Rattle.device.specs.declared.Scope.{Scope}
 use Rattle.device.specs.declared.Scope.TheVariants.{OfInterface}
 use Rattle.requests.specs.declared.Request.{Request}
-use Rattle.requests.specs.Requests.{place_at, lowest, is_some, Query, Free, Id, Settling, Answered, taken, ends, ids_differ}
+use Rattle.requests.specs.Requests.{place_at, lowest, Query, Free, Id, Settling, Answered, taken, ends, ids_differ}
 use Rattle.requests.proofs.Places.{differ-when, live-within}
 use Rattle.header.specs.Link.{is_guest}
 use Rattle.kinds.specs.Content.{Content}
@@ -192,7 +192,7 @@ module _ (s : Session) (from : Side) (p : Content) (w : wire_number (link_of fro
     match-at o x = match_is s from p agreed r ∙ ap (match_in s.requests) x
 
     -- nothing matches, and the reply passes: it is unsolicited
-    alone-when : lowest s.requests query ≡ none → (judged s e).number ≡ 0 → Unsolicited s.requests p
+    alone-when : lowest s.requests query ≡ None → (judged s e).number ≡ 0 → Unsolicited s.requests p
     alone-when x z = go ((asked_is s from p).0 (sym (matched-by s from p agreed) ∙ (none-held s e z).matched) r)
       where
         go : ((i : ℕ) × AnsweredBy s.requests p i) ⊎ Unsolicited s.requests p → Unsolicited s.requests p
@@ -224,9 +224,9 @@ module _ (s : Session) (from : Side) (p : Content) (w : wire_number (link_of fro
             }
 
         go : (o : Option ℕ) → lowest s.requests query ≡ o → ((i : ℕ) × Consumes s p (judged s e).session i) ⊎ (Unsolicited s.requests p × ((judged s e).session.requests ≡ s.requests))
-        go none x =
-            inr (alone-when x z, unmatched-keeps s e replying (match-at none x))
-        go (some i) x = inl (i, handed i (reply-frees s e i (place_at s.requests i).request z (match-at (some i) x)))
+        go None x =
+            inr (alone-when x z, unmatched-keeps s e replying (match-at None x))
+        go (Some i) x = inl (i, handed i (reply-frees s e i (place_at s.requests i).request z (match-at (Some i) x)))
 
     -- once it has been handed to a request, no request with its id waits
     absent-after : ids_differ s.requests ≡ true → (judged s e).number ≡ 0 → (Unsolicited s.requests p → ⊥) → NoLive (judged s e).session.requests p.id
@@ -234,8 +234,8 @@ module _ (s : Session) (from : Side) (p : Content) (w : wire_number (link_of fro
     absent-after u z n = go (lowest s.requests query) refl
       where
         go : (o : Option ℕ) → lowest s.requests query ≡ o → NoLive (judged s e).session.requests p.id
-        go none x = absurd (n (alone-when x z))
-        go (some i) x = answered-once s e i (place_at s.requests i).request z (match-at (some i) x) u
+        go None x = absurd (n (alone-when x z))
+        go (Some i) x = answered-once s e i (place_at s.requests i).request z (match-at (Some i) x) u
 
     -- where no request with its id waits, it is refused, but for an unsolicited status, and it frees nothing
     late-when : NoLive s.requests p.id → LateReply s from p

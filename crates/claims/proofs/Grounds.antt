@@ -3,10 +3,11 @@
 -- also go by their direction. What holds for every kind of the table holds for the one that is found by its number, by induction over the table
 -- (`found-kind`).
 -- Assumes nothing.
+use Rattle.std.specs.Prelude.{Some}
 use Prim.Native.Nat.{ℕ}
 use mathlib.Core.Bool.{true, false≢true}
 use mathlib.Core.List.{List, [], ◌∷◌}
-use mathlib.Core.Option.{some, some-injective, none-ne-some}
+use Rattle.std.proofs.lemmas.Option.{none-some, same_Some}
 use mathlib.Core.Path.{◌≡◌, refl, sym, ap, subst, ◌∙◌}
 use lib.Dec.{eqb}
 use borrow.Author.Tests.{eqb-true}
@@ -49,13 +50,13 @@ module _ (P : Side → ℕ → Type 0) where
   by_both n a b Host h = b
 
   -- what holds for every kind of a list holds for the one that is found by its number
-  pub found-kind : (ks : List Kind) (n : ℕ) (k : Kind) → find n ks ≡ some k → Every ks → (from : Side) → sends k.sender from ≡ true → P from n
-  found-kind [] n k e a = absurd (none-ne-some k e)
+  pub found-kind : (ks : List Kind) (n : ℕ) (k : Kind) → find n ks ≡ Some k → Every ks → (from : Side) → sends k.sender from ≡ true → P from n
+  found-kind [] n k e a = absurd (none-some k e)
   found-kind (x ∷ ks) n k e a = cases (eqb n x.number) here (λ t. found-kind ks n k (sym (rw t) ∙ e) a.1)
     where
       here : eqb n x.number ≡ true → (from : Side) → sends k.sender from ≡ true → P from n
       here t from h =
-          let q : x ≡ k = some-injective x k (sym (rw t) ∙ e) in
+          let q : x ≡ k = same_Some x k (sym (rw t) ∙ e) in
           subst (λ (m : ℕ). P from m) (sym (eqb-true n x.number t)) (a.0 from (ap (λ (y : Kind). sends y.sender from) q ∙ h))
 
 -- ---- the two agree

@@ -1,11 +1,11 @@
 -- What every packet keeps of a session, and that the start is fit.
 -- A refused packet keeps all; of one that passes, each change of the requests, the rows and the head does, by the laws of each.
 -- Assumes nothing.
+use Rattle.std.specs.Prelude.{Option, Some, None, is_some}
 use Prim.Native.Nat.{ℕ}
 use native.Mathlib.Omega.{arith}
 use mathlib.Core.Bool.{Bool, true, false, cond, ◌&&◌, false≢true, true≢false, not}
 use mathlib.Core.List.{List, [], ◌∷◌}
-use mathlib.Core.Option.{Option, none, some}
 use mathlib.Core.Path.{◌≡◌, refl, ◌∙◌, sym, ap}
 use lib.Dec.{eqb, ltb}
 use lib.ListN.{get_or, drop}
@@ -15,8 +15,6 @@ use Rattle.octets.proofs.Logic.{and-whole, fails}
 use Rattle.scan.specs.Scan.{tabulated}
 use Rattle.header.specs.declared.Side.{Side}
 use Rattle.header.specs.Link.{is_guest, shared_set, passed}
-use Rattle.header.specs.declared.HelloState.{HelloState}
-use Rattle.header.specs.declared.HelloState.TheVariants.{Awaited, Passed}
 use Rattle.header.specs.declared.Link.{Link}
 use Rattle.device.specs.declared.Head.{Head}
 use Rattle.device.specs.Device.{start_head, control_rows}
@@ -27,7 +25,7 @@ use Rattle.device.specs.declared.Rows.{Rows}
 use Rattle.device.specs.declared.Introduction.{Introduction}
 use Rattle.device.proofs.RowChanges.{start-control, closed-control, stream-control, replaced-control}
 use Rattle.requests.specs.declared.Requests.{Requests}
-use Rattle.requests.specs.Requests.{lowest, with_request, released, cleared, is_some, Free, Id, ids_differ}
+use Rattle.requests.specs.Requests.{lowest, with_request, released, cleared, Free, Id, ids_differ}
 use Rattle.requests.proofs.Places.{fresh-differ, released-differ, cleared-differ, taken-differ}
 use Rattle.requests.specs.Clean.{Clean}
 use Rattle.requests.proofs.KeptClean.{fresh-clean, taken-clean, released-clean, cleared-clean}
@@ -41,8 +39,8 @@ use Rattle.packet.specs.Rows.{column}
 use Rattle.events.specs.declared.Typed.{Typed}
 use Rattle.events.specs.declared.Typed.TheVariants.{Untyped, OfEndpoint, OfMask}
 use Rattle.events.specs.Event.{Event, event_of, announced_in}
-use Rattle.checks.specs.Checks.{traits_of, match_of}
-use Rattle.checks.specs.Change.{scope_of, place_or, place_in, is_opening, change_for}
+use Rattle.checks.specs.Checks.{Match, Unmatched, Matched, traits_of, match_of}
+use Rattle.checks.specs.Change.{scope_of, move_of, place_or, place_in, is_opening, change_for}
 use Rattle.checks.specs.declared.Change.{Change}
 use Rattle.checks.specs.declared.Change.TheVariants.{NoChange, Seen, Hello as Greet, Connect, Interfaces, Endpoints, Disconnect, Reset, Acknowledge, Take, TakeAndOpen, Release}
 use Rattle.session.specs.declared.Session.{Session}
@@ -55,13 +53,13 @@ use Rattle.claims.proofs.OnePacket.{step, Role, leaving, asking, answering, endi
 -- ---- the requests
 
 -- a search that finds nothing
-none_found : (o : Option ℕ) → is_some o ≡ false → o ≡ none
-none_found none h = refl
-none_found (some i) h = absurd (true≢false h)
+none_found : (o : Option ℕ) → is_some o ≡ false → o ≡ None
+none_found None h = refl
+none_found (Some i) h = absurd (true≢false h)
 
 -- what holds of them before a packet and after each change that it can make holds after it
 kept_by : (s : Session) (e : Event) (P : Requests → Type 0) → P s.requests
-    → ((i : ℕ) → lowest s.requests Free ≡ some i → lowest s.requests (Id e.request.id) ≡ none → P (with_request s.requests i e.request))
+    → ((i : ℕ) → lowest s.requests Free ≡ Some i → lowest s.requests (Id e.request.id) ≡ None → P (with_request s.requests i e.request))
     → ((i : ℕ) (c : Scope) → P (released s.requests i s.rows c))
     → P (cleared s.requests)
     → P (after_event s e).requests
@@ -74,18 +72,21 @@ kept_by s e P d take release clear = step s e (λ (x : Session). P x.requests) d
     either true u h = h
     either false u h = d
 
+    answered : (m : Match) → P (requests_after t s.rows (Release (place_in m) e.typed (move_of e m) (scope_of e m)))
+    answered Unmatched = d
+    answered (Matched i q) = either (ltb i 96) (released t i s.rows (scope_of e (Matched i q))) (release i (scope_of e (Matched i q)))
+
     takes : (judged s e).number ≡ 0 → (traits_of e.class).request ≡ true → (o : Option ℕ) → lowest t Free ≡ o → P (requests_after t s.rows (Take (place_or o) e.request))
-    takes z h none f =
+    takes z h None f =
         let room = not-false (is_some (lowest t Free)) (fails (traits_of e.class).request (not (is_some (lowest t Free))) (none-held s e z).room h) in
         absurd (false≢true (sym (ap is_some f) ∙ room))
-    takes z h (some i) f = take i f (none_found (lowest t (Id e.request.id)) (fails (traits_of e.class).request _ (none-held s e z).unused h))
+    takes z h (Some i) f = take i f (none_found (lowest t (Id e.request.id)) (fails (traits_of e.class).request _ (none-held s e z).unused h))
 
     by : (judged s e).number ≡ 0 → (r : Role) → Does e.class r → P (requests_by r s e (match_of t e))
     by z leaving c = d
     by z asking c = takes z c.0 (lowest t Free) refl
     by z answering c =
-        let m = match_of t e in
-        either (ltb (place_in m) 96) (released t (place_in m) s.rows (scope_of e m)) (release (place_in m) (scope_of e m))
+        answered (match_of t e)
     by z ending c = clear
 
 pub kept-ids : KeptIds
@@ -136,10 +137,10 @@ announced-control fs vs = refl
 table-control : (from : Side) (caps e : ℕ) (vs : List Value) → is_none (bad_fields from caps e (layout 5) vs 0) ≡ true → control_rows (announced_in (layout 5) vs) ≡ true
 unfolding layout kinds
 table-control from caps e [] b = announced-control (layout 5) []
-table-control from caps e (none ∷ vs) b = announced-control (layout 5) (none ∷ vs)
-table-control from caps e (some xs ∷ vs) b =
+table-control from caps e (None ∷ vs) b = announced-control (layout 5) (None ∷ vs)
+table-control from caps e (Some xs ∷ vs) b =
     let good = first_good from caps e (u8 "type" times 32 is endpoint-type) (drop 1 (layout 5)) xs vs 0 b in
-    announced-control (layout 5) (some xs ∷ vs) ∙ and-whole (eqb (get_or xs 0 0) 0) (eqb (get_or xs 16 0) 0) (good 0 (omega arith)) (good 16 (omega arith))
+    announced-control (layout 5) (Some xs ∷ vs) ∙ and-whole (eqb (get_or xs 0 0) 0) (eqb (get_or xs 16 0) 0) (good 0 (omega arith)) (good 16 (omega arith))
 
 -- no field of a packet that the wire checks pass breaks its rule
 fields-good : (l : Link) (p : Content) (c : CleanPacket l p) → is_none (bad_fields l.sender (shared_set l) (named "endpoint" c.kind.fields p.fields) (layout p.kind) p.fields 0) ≡ true
@@ -161,11 +162,11 @@ event-control l p z = cases (eqb p.kind 5) (λ t. table (eqb-true p.kind 5 t) _ 
 -- ---- the head
 
 -- a hello that has passed is not replaced
-kept_hello-once : (b : Bool) (h : HelloState) (word : ℕ) → passed h ≡ true → (cond b (kept_hello h word) h ≡ h) × (cond b h (kept_hello h word) ≡ h)
-kept_hello-once true Awaited word p = absurd (false≢true p)
-kept_hello-once true (Passed w) word p = (refl, refl)
-kept_hello-once false Awaited word p = absurd (false≢true p)
-kept_hello-once false (Passed w) word p = (refl, refl)
+kept_hello-once : (b : Bool) (h : Option ℕ) (word : ℕ) → passed h ≡ true → (cond b (kept_hello h word) h ≡ h) × (cond b h (kept_hello h word) ≡ h)
+kept_hello-once true None word p = absurd (false≢true p)
+kept_hello-once true (Some w) word p = (refl, refl)
+kept_hello-once false None word p = absurd (false≢true p)
+kept_hello-once false (Some w) word p = (refl, refl)
 
 -- what is said of a head and the next one
 record HeadKept (h next : Head) : Type 0 where

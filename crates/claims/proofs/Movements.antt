@@ -1,10 +1,10 @@
 -- The judge's next session is what `Moved` says (`moves`).
 -- For each kind of the table all of it computes but the rows, and each change of the rows has a law of what stands in a row afterwards.
 -- Assumes nothing.
+use Rattle.std.specs.Prelude.{Option, Some, None}
 use Prim.Native.Nat.{ℕ, ◌<◌}
 use mathlib.Core.Bool.{Bool, true, false, cond, not, ◌&&◌, ◌||◌, false≢true, true≢false, and-true, and-false}
 use mathlib.Core.List.{List, [], ◌∷◌}
-use mathlib.Core.Option.{Option, none, some}
 use mathlib.Core.Path.{◌≡◌, refl, sym, ap, ◌∙◌}
 use lib.Dec.{eqb}
 use borrow.Author.Tests.{eqb-true}
@@ -16,8 +16,6 @@ use Rattle.endpoint.specs.declared.Endpoint.{Endpoint}
 use Rattle.endpoint.specs.Endpoint.{row_of}
 use Rattle.header.specs.declared.Side.{Side}
 use Rattle.header.specs.declared.Side.TheVariants.{Guest, Host}
-use Rattle.header.specs.declared.HelloState.{HelloState}
-use Rattle.header.specs.declared.HelloState.TheVariants.{Awaited, Passed}
 use Rattle.device.specs.declared.Head.{Head}
 use Rattle.device.specs.Device.{bulk, iso, interrupt, row_at, is_row, stream_to, closed, RowState, touches}
 use Rattle.device.specs.declared.Introduction.TheVariants.{Unintroduced, Two, One}
@@ -86,8 +84,8 @@ other-kind : (t : Requests) (p : Content) (k : ℕ) → eqb 0 k ≡ false → an
 other-kind t p k z u = go (answered_at t p) refl
   where
     go : (o : Option ℕ) → answered_at t p ≡ o → eqb (kind_in t o) k ≡ false
-    go none f = z
-    go (some i) f =
+    go None f = z
+    go (Some i) f =
         let q = (place_at t i).request in
         let m : Place → Bool = λ (x : Place). x.live && answers_by p x.request in
         let a = and_parts (place_at t i).live (answers_by p q) (sym (ap m (places-at t i)) ∙ (first_found m (places_of t) i free_place f).1) in
@@ -117,8 +115,8 @@ module _ (s : Session) (p : Content) where
           cases (eqb status 4) (λ f. rw (eqb-true status 4 f)) (λ f. rw f (cases (eqb status 0 && start) (λ b. rw b) (λ b. rw b)))
 
       go : (o : Option ℕ) → answers_start e (match_in t o) ≡ eqb (kind_in t o) e.answers.first
-      go none = sym z
-      go (some i) = refl
+      go None = sym z
+      go (Some i) = refl
 
   -- the rows whose streams a reply to a request of this kind closes
   abbrev closing_scope : ℕ → Scope
@@ -128,8 +126,8 @@ module _ (s : Session) (p : Content) where
   scope-is = go (answered_at t p)
     where
       go : (o : Option ℕ) → scope_of e (match_in t o) ≡ closing_scope (kind_in t o)
-      go none = cases (eqb e.status 0) (λ x. rw x) (λ x. rw x)
-      go (some i) = refl
+      go None = cases (eqb e.status 0) (λ x. rw x) (λ x. rw x)
+      go (Some i) = refl
 
   module _ (d : Rows) (r : ℕ) (h : r < 32) where
     abbrev old : RowState
@@ -273,9 +271,9 @@ every-kind-moves =
 
 -- ---- the theorem
 
-first-kept : (h : HelloState) (word : ℕ) → kept_hello h word ≡ first_hello h word
-first-kept Awaited word = refl
-first-kept (Passed w) word = refl
+first-kept : (h : Option ℕ) (word : ℕ) → kept_hello h word ≡ first_hello h word
+first-kept None word = refl
+first-kept (Some w) word = refl
 
 -- with a device the introduction stays, whatever the kind
 introduction-is : (two five four present : Bool) (i : Introduction)
@@ -308,8 +306,8 @@ moves s from p w n =
     let word = le 4 p.rest 0 in
     rw (passed s (event_of from p) n)
     (record {
-      guest = (λ i. (m.0 i).head.guest) ∙ ap (λ (h : HelloState). cond (eqb p.kind 0 && is_guest from) h s.head.guest) (first-kept s.head.guest word);
-      host = (λ i. (m.0 i).head.host) ∙ ap (λ (h : HelloState). cond (eqb p.kind 0 && not (is_guest from)) h s.head.host) (first-kept s.head.host word);
+      guest = (λ i. (m.0 i).head.guest) ∙ ap (λ (h : Option ℕ). cond (eqb p.kind 0 && is_guest from) h s.head.guest) (first-kept s.head.guest word);
+      host = (λ i. (m.0 i).head.host) ∙ ap (λ (h : Option ℕ). cond (eqb p.kind 0 && not (is_guest from)) h s.head.host) (first-kept s.head.host word);
       present = λ i. (m.0 i).head.present;
       introduction = (λ i. (m.0 i).head.introduction) ∙ introduction-is (eqb p.kind 2) (eqb p.kind 5) (eqb p.kind 4) s.head.present s.head.introduction;
       owed = λ i. (m.0 i).head.owed;

@@ -2,10 +2,10 @@
 -- Check by check both lists hold the same test, since what the checks go by is the same (`agrees`). 30 asks for the row only of a packet that
 -- comes on a stream; 33 and 34 are split by whether it is a reply, and of a reply both search for the same request (`found-by`).
 -- Assumes nothing.
+use Rattle.std.specs.Prelude.{Option, Some, None, is_some}
 use Prim.Native.Nat.{ℕ}
 use mathlib.Core.Bool.{Bool, true, false, not, ◌&&◌}
 use mathlib.Core.List.{[], ◌∷◌}
-use mathlib.Core.Option.{Option, none, some}
 use mathlib.Core.Path.{◌≡◌, refl, sym, ap, ◌∙◌}
 use lib.Dec.{eqb}
 use borrow.Table.Steps.{cases}
@@ -13,7 +13,7 @@ use Rattle.scan.specs.Scan.{first_at}
 use Rattle.header.specs.declared.Side.{Side}
 use Rattle.device.specs.Device.{state_at}
 use Rattle.requests.specs.declared.Requests.{Requests}
-use Rattle.requests.specs.Requests.{Place, places_of, lowest, is_some, Free, Id, Answered}
+use Rattle.requests.specs.Requests.{Place, places_of, lowest, Free, Id, Answered}
 use Rattle.kinds.specs.Content.{Content}
 use Rattle.kinds.proofs.RoundTrip.{clean}
 use Rattle.events.specs.Event.{Event, event_of}
@@ -53,13 +53,13 @@ module _ (s : Session) (from : Side) (p : Content) (a : grounds_of (event_of fro
     match_by = match_is s from p a r ∙ ap (match_in t) found-by
 
   unmatched-is : (o : Option ℕ) → is_unmatched (match_in t o) ≡ not (is_some o)
-  unmatched-is none = refl
-  unmatched-is (some i) = refl
+  unmatched-is None = refl
+  unmatched-is (Some i) = refl
 
   long-is : (o : Option ℕ) → too_long e (match_in t o) ≡ longer_than t p o
   unfolding event_of
-  long-is none = refl
-  long-is (some i) = refl
+  long-is None = refl
+  long-is (Some i) = refl
 
   reply-is : (traits_of e.class).reply ≡ is_reply from p.kind (inward_of p)
   reply-is k = (a k).reply

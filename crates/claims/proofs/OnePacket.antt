@@ -4,10 +4,11 @@
 -- The judge's number is 0 only where no check holds, and then the session is the next one. What that does to the requests goes by
 -- four roles of a class, and what stands at a place afterwards by the laws of the table.
 -- Assumes nothing.
+use Rattle.std.specs.Prelude.{Option, Some, None, is_some}
+use Rattle.std.proofs.lemmas.Option.{same_Some}
 use Prim.Native.Nat.{ℕ, ◌≤◌, ◌<◌}
 use mathlib.Core.Bool.{Bool, true, false, cond, not, ◌&&◌, ◌||◌, false≢true, true≢false}
 use mathlib.Core.List.{List, [], ◌∷◌}
-use mathlib.Core.Option.{Option, none, some}
 use mathlib.Core.Path.{◌≡◌, refl, sym, ap, ◌∙◌}
 use mathlib.Core.Logic.{◌⊎◌, inl, inr}
 use lib.Dec.{eqb}
@@ -21,7 +22,7 @@ use Rattle.device.specs.declared.Head.{Head}
 use Rattle.device.specs.declared.Rows.{Rows}
 use Rattle.requests.specs.declared.Request.{Request}
 use Rattle.requests.specs.declared.Requests.{Requests}
-use Rattle.requests.specs.Requests.{Place, no_request, answers, place_at, lowest, with_request, released, cleared, is_some, Query, Free, Id, Answered, free_place, taken, ends, ids_differ, meets}
+use Rattle.requests.specs.Requests.{Place, no_request, answers, place_at, lowest, with_request, released, cleared, Query, Free, Id, Answered, free_place, taken, ends, ids_differ, meets}
 use Rattle.requests.proofs.Places.{differ-when, live-within, cleared_at, lowest-found, lowest-none, place-taken, released-at, lowest-lower, lowest-some}
 use Rattle.requests.specs.Clean.{Zeroed}
 use Rattle.requests.proofs.KeptClean.{released-zero}
@@ -206,8 +207,8 @@ request-takes s e h z = go (lowest t Free) refl room (requests-passed s e asking
     room = not-false (is_some (lowest t Free)) (fails (traits_of e.class).request (not (is_some (lowest t Free))) (none-held s e z).room h)
 
     go : (o : Option ℕ) → lowest t Free ≡ o → is_some o ≡ true → (after_event s e).requests ≡ requests_after t s.rows (Take (place_or o) e.request) → EventTakes s e
-    go none f g a = absurd (false≢true g)
-    go (some i) f g a =
+    go None f g a = absurd (false≢true g)
+    go (Some i) f g a =
         let found = lowest-found t Free i f in
         let b : (after_event s e).requests ≡ with_request t i e.request = a in
         record {
@@ -227,9 +228,9 @@ request_in Unmatched = no_request
 request_in (Matched i q) = q
 
 -- a match is of the place that was found and the request there
-match-in : (t : Requests) (o : Option ℕ) (i : ℕ) (q : Request) → match_in t o ≡ Matched i q → (o ≡ some i) × ((place_at t i).request ≡ q)
-match-in t none i q m = absurd (true≢false (ap is_unmatched m))
-match-in t (some j) i q m = let k : j ≡ i = ap place_in m in (ap some k, ap (λ (n : ℕ). (place_at t n).request) (sym k) ∙ ap request_in m)
+match-in : (t : Requests) (o : Option ℕ) (i : ℕ) (q : Request) → match_in t o ≡ Matched i q → (o ≡ Some i) × ((place_at t i).request ≡ q)
+match-in t None i q m = absurd (true≢false (ap is_unmatched m))
+match-in t (Some j) i q m = let k : Some j ≡ Some i = ap place_in m in (k, ap (λ (n : ℕ). (place_at t n).request) (sym (same_Some j i k)) ∙ ap request_in m)
 
 -- the place that a reply matches is of a live request, which it answers
 record MatchFound (t : Requests) (e : Event) (i : ℕ) (q : Request) : Type 0 where
@@ -455,8 +456,8 @@ late-reply s e h g n =
 
 -- the guest may not send it
 abbrev unsent : Option Kind → Bool
-unsent none = true
-unsent (some k) = not (sends k.sender Guest)
+unsent None = true
+unsent (Some k) = not (sends k.sender Guest)
 
 -- what holds of each of these numbers holds of one that is among them
 abbrev pub each_of : (ℕ → Bool) → List ℕ → Bool

@@ -4,10 +4,10 @@
 -- A status that answers no request passes as a stall (`stall-alone`): of a reply that matches nothing no check asks but 25 and 33
 -- (`unmatched-number`).
 -- Assumes nothing.
+use Rattle.std.specs.Prelude.{Option, Some, None}
 use Prim.Native.Nat.{ℕ}
 use mathlib.Core.Bool.{Bool, true, false, cond, not, ◌&&◌, ◌||◌, false≢true}
 use mathlib.Core.List.{[], ◌∷◌}
-use mathlib.Core.Option.{Option, none, some}
 use mathlib.Core.Path.{◌≡◌, refl, sym, ap, ◌∙◌}
 use mathlib.Core.Logic.{◌⊎◌, inl, inr}
 use lib.Dec.{eqb}
@@ -121,11 +121,11 @@ module _ (from : Side) (p : Content) (x : ℕ) where
   target-same mask = refl
 
   typed-same : (o : Option ℕ) (a : About) → typed_of o a q ≡ typed_of o a p
-  typed-same none a = refl
-  typed-same (some ty) nothing = refl
-  typed-same (some ty) endpoint = ap (λ (b : ℕ). OfEndpoint (record { 0 = b }) ty) k.endpoint
-  typed-same (some ty) interface = refl
-  typed-same (some ty) mask = ap (λ (b : ℕ). OfMask b ty) k.mask
+  typed-same None a = refl
+  typed-same (Some ty) nothing = refl
+  typed-same (Some ty) endpoint = ap (λ (b : ℕ). OfEndpoint (record { 0 = b }) ty) k.endpoint
+  typed-same (Some ty) interface = refl
+  typed-same (Some ty) mask = ap (λ (b : ℕ). OfMask b ty) k.mask
 
   -- only an endpoint table announces rows, and it has no status
   rows_same : rows_told q ≡ rows_told p
@@ -231,10 +231,10 @@ pub stall-alone : StallAlone
 stall-alone s from p w m h n =
     let r : is_reply from p.kind (inward_of p) ≡ true = each-among (λ (k : ℕ). is_reply from k (inward_of p)) (14 ∷ 17 ∷ 27 ∷ []) p.kind refl m in
     let a = agreed s from p w in
-    let u = match-at s from p w r none (found-by s from p a r ∙ unanswered (answered_at s.requests p) refl) in
+    let u = match-at s from p w r None (found-by s from p a r ∙ unanswered (answered_at s.requests p) refl) in
     unmatched-number s (event_of from p) (replying s from p w r) (from-a-host s from p w r) u
     ∙ rw (h, unsolicited-is s from p a r, m) (other_way (eqb p.id 0 && stalled p))
   where
-    unanswered : (o : Option ℕ) → answered_at s.requests p ≡ o → answered_at s.requests p ≡ none
-    unanswered none e = e
-    unanswered (some i) e = absurd (n i (found s from p i e))
+    unanswered : (o : Option ℕ) → answered_at s.requests p ≡ o → answered_at s.requests p ≡ None
+    unanswered None e = e
+    unanswered (Some i) e = absurd (n i (found s from p i e))

@@ -1,5 +1,6 @@
 -- Three tests of a session as relations, each by taking its test apart.
 -- Assumes nothing.
+use Rattle.std.specs.Prelude.{Option, Some, None}
 use mathlib.Core.Bool.{Bool, true, false, not, ◌||◌, false≢true, or-false}
 use mathlib.Core.Path.{◌≡◌, refl, sym, ap, ◌∙◌}
 use lib.Dec.{eqb}
@@ -7,8 +8,6 @@ use borrow.Author.Tests.{eqb-true, eq-eqb, ne_eqb, not-true, eqb-false}
 use Rattle.octets.proofs.Logic.{and_parts, and-whole, or-none, or_parts, true-not}
 use Rattle.endpoint.specs.Endpoint.{row_of}
 use Rattle.endpoint.specs.declared.Row.{Row}
-use Rattle.endpoint.specs.declared.RowOf.{RowOf}
-use Rattle.endpoint.specs.declared.RowOf.TheVariants.{At, Malformed}
 use Rattle.device.specs.Device.{row_at, touched, touched_in}
 use Rattle.device.specs.declared.Scope.TheVariants.{OfInterface}
 use Rattle.claims.specs.TestsInWords.{DataKinds, InScope, TouchedIs, ControlIs}
@@ -25,14 +24,14 @@ pub touched-is : TouchedIs
 unfolding touched
 touched-is d n e = (within (row_of e), inside (row_of e))
   where
-    within : (o : RowOf) → touched_in d (OfInterface n) o ≡ true → InScope d n o
-    within (At r) t =
+    within : (o : Option Row) → touched_in d (OfInterface n) o ≡ true → InScope d n o
+    within (Some r) t =
         let p = and_parts (not (eqb r.0 0 || eqb r.0 16)) (eqb (row_at d r.0).interface n) t in
         let q = or_parts (eqb r.0 0) (eqb r.0 16) (not-true (eqb r.0 0 || eqb r.0 16) p.0) in
         record { row = r; of = refl; not-out = eqb-false r.0 0 q.0; not_in = eqb-false r.0 16 q.1; interface = eqb-true (row_at d r.0).interface n p.1 }
-    within Malformed t = absurd (false≢true t)
+    within None t = absurd (false≢true t)
 
-    inside : (o : RowOf) → InScope d n o → touched_in d (OfInterface n) o ≡ true
+    inside : (o : Option Row) → InScope d n o → touched_in d (OfInterface n) o ≡ true
     inside o s =
         let r : Row = s.row in
         let c : (eqb r.0 0 || eqb r.0 16) ≡ false = or-none (eqb r.0 0) (eqb r.0 16) (ne_eqb r.0 0 s.not-out) (ne_eqb r.0 16 s.not_in) in

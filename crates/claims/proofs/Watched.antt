@@ -3,6 +3,7 @@
 -- what stands in a row afterwards; so a row after a packet that passes is one term (`row-after`). The count over a list is by induction: with both
 -- hellos passed the width stays.
 -- Assumes nothing.
+use Rattle.std.specs.Prelude.{Option, Some, None}
 use Prim.Native.Nat.{ℕ, ◌+◌, ◌-◌, ◌%◌, ◌≤◌, ◌<◌, min}
 use native.Mathlib.Omega.{arith}
 use mathlib.Core.Bool.{Bool, true, false, cond, not, ◌&&◌, ◌||◌, true≢false, false≢true, or-true, and-false}
@@ -15,8 +16,6 @@ use borrow.Table.Steps.{cases}
 use Rattle.octets.proofs.Logic.{and_parts}
 use Rattle.octets.specs.Bits.{has_bit}
 use Rattle.endpoint.specs.declared.Row.{Row}
-use Rattle.endpoint.specs.declared.RowOf.{RowOf}
-use Rattle.endpoint.specs.declared.RowOf.TheVariants.{At, Malformed}
 use Rattle.endpoint.specs.Endpoint.{row_of}
 use Rattle.header.specs.declared.Side.{Side}
 use Rattle.header.specs.declared.Side.TheVariants.{Guest, Host}
@@ -61,14 +60,14 @@ abbrev row_next : Session → SentPacket → ℕ → RowWatch
 row_next s x n = row_by (is_wide s.head) x.packet.id (watch_at s.watch n) (watched_on n x) (restarts_on n x)
 
 -- an endpoint's row is watched at n exactly where it is IN row 16 + n
-named-row : (o : RowOf) (n : ℕ) → n < 16 → eqb n (watched_in o) ≡ is_row o (16 + n)
+named-row : (o : Option Row) (n : ℕ) → n < 16 → eqb n (watched_in o) ≡ is_row o (16 + n)
 unfolding index_of
-named-row (At r) n h =
+named-row (Some r) n h =
     let i = r.0 in
     cases (ltb i 16)
     (λ o. rw (o, ne_eqb n 16 (omega arith), ne_eqb i (16 + n) (omega (arith, ltb-true))))
     (λ o. rw o (cases (eqb i (16 + n)) (λ e. rw (e, eq-eqb n (i - 16) (omega (arith, eqb-true)))) (λ e. rw (e, ne_eqb n (i - 16) (λ d. eqb-false i (16 + n) e (omega (arith, ltb-false)))))))
-named-row Malformed n h = ne_eqb n 16 (omega arith)
+named-row None n h = ne_eqb n 16 (omega arith)
 
 -- a status of 4 is a stall
 stall-is : (status : ℕ) (start : Bool) → is_stalling (move_by status start) ≡ eqb status 4

@@ -2,9 +2,8 @@
 -- document 01. It does not go by the classes of `events` nor run the checks; `AllowedExactly` says that the judge passes a packet exactly then.
 -- Shared with the definitions are the table of kinds and the look at a field by its name there (`named`), and what is seen of rows and places.
 -- Assumes nothing: these are definitions and a statement.
-use Rattle.std.specs.Prelude.{ℕ, ◌≤◌, ◌<◌, Bool, true, false, cond, not, ◌&&◌, ◌||◌, List, [], ◌∷◌, ◌≡◌, ◌⊎◌, ◌↔◌, eqb}
+use Rattle.std.specs.Prelude.{ℕ, ◌≤◌, ◌<◌, Bool, true, false, cond, not, ◌&&◌, ◌||◌, List, [], ◌∷◌, ◌≡◌, ◌⊎◌, ◌↔◌, eqb, Option, Some, None}
 use Prim.Native.String.{String}
-use Rattle.std.proofs.Math.Option.{Option, none, some}
 use Rattle.octets.specs.Bits.{has_bit}
 use Rattle.endpoint.specs.declared.Endpoint.{Endpoint}
 use Rattle.endpoint.specs.Endpoint.{is_in}
@@ -63,10 +62,10 @@ carries_target kind = not (among (8 ∷ 20 ∷ []) kind)
 -- host 103 IN wants interrupt."
 abbrev pub wants : Side → ℕ → Bool → Option ℕ
 wants from kind inward =
-    cond (among (12 ∷ 13 ∷ 102 ∷ []) kind) (some iso)
-    (cond (among (15 ∷ 16 ∷ []) kind || (is_guest from && eqb kind 103) || host_interrupt from kind inward) (some interrupt)
-    (cond (among (25 ∷ 26 ∷ 104 ∷ []) kind || (is_guest from && eqb kind 101)) (some bulk)
-    (cond (is_guest from && eqb kind 100) (some control) none)))
+    cond (among (12 ∷ 13 ∷ 102 ∷ []) kind) (Some iso)
+    (cond (among (15 ∷ 16 ∷ []) kind || (is_guest from && eqb kind 103) || host_interrupt from kind inward) (Some interrupt)
+    (cond (among (25 ∷ 26 ∷ 104 ∷ []) kind || (is_guest from && eqb kind 101)) (Some bulk)
+    (cond (is_guest from && eqb kind 100) (Some control) None)))
 
 -- 30: "kind 102, host 103 IN and 104"
 abbrev pub comes_on_stream : Side → ℕ → Bool → Bool
@@ -143,7 +142,7 @@ module _ (s : Session) (from : Side) (p : Content) where
 
   -- 28: the row of its endpoint has the type that it wants; "18, 19 (every mask bit)" bulk
   pub record RightType : Type 0 where
-    pub type : (ty : ℕ) → wants from p.kind (inward_of p) ≡ some ty → (state_at s.rows (endpoint_named p)).ty ≡ ty
+    pub type : (ty : ℕ) → wants from p.kind (inward_of p) ≡ Some ty → (state_at s.rows (endpoint_named p)).ty ≡ ty
     pub types : among (18 ∷ 19 ∷ []) p.kind ≡ true → (r : ℕ) → r < 32 → has_bit (said "mask" p) r ≡ true → (row_at s.rows r).ty ≡ bulk
 
   -- 29: "guest kinds 100 to 103 while a kind 6 or 9 waits"

@@ -1,8 +1,7 @@
 -- Runs of wire checks and judge on packets: the readings of document 01's session rules where they are easily taken otherwise, each with the
 -- numbers that it gives. A packet that the wire checks refuse would show their number.
 -- Assumes nothing: these are definitions and a statement. The proof is by computation.
-use Rattle.std.specs.Prelude.{ℕ, zero, suc, cond, List, [], ◌∷◌, ◌++◌, ◌≡◌, eqb, replicate, set}
-use Rattle.std.proofs.Math.Option.{some}
+use Rattle.std.specs.Prelude.{ℕ, zero, suc, cond, List, [], ◌∷◌, ◌++◌, ◌≡◌, eqb, replicate, set, Some}
 use Rattle.header.specs.declared.Side.{Side}
 use Rattle.header.specs.declared.Side.TheVariants.{Guest, Host}
 use Rattle.kinds.specs.Content.{Value, packet_of, one}
@@ -34,14 +33,14 @@ host_packet kind id fs = bare_packet Host kind id fs
 
 -- a hello that offers the bits of a byte
 abbrev hello_packet : Side → ℕ → SentPacket
-hello_packet from bits = packet_with from 0 0 (some (replicate 64 0) ∷ []) (bits ∷ 0 ∷ 0 ∷ 0 ∷ [])
+hello_packet from bits = packet_with from 0 0 (Some (replicate 64 0) ∷ []) (bits ∷ 0 ∷ 0 ∷ 0 ∷ [])
 
 -- an endpoint table whose rows are of a type each, given for rows 1, 17, 2, 18, 3 and 19, and of an interface each
 abbrev rows_with : ℕ → ℕ → ℕ → ℕ → ℕ → ℕ → List ℕ
 rows_with a b c d e f = set (set (set (set (set (set (set (set (replicate 32 255) 0 0) 16 0) 1 a) 17 b) 2 c) 18 d) 3 e) 19 f
 
 abbrev endpoint_table_packet : List ℕ → List ℕ → SentPacket
-endpoint_table_packet types interfaces = host_packet 5 0 (some types ∷ some (replicate 32 0) ∷ some interfaces ∷ some (replicate 32 0) ∷ some (replicate 32 0) ∷ [])
+endpoint_table_packet types interfaces = host_packet 5 0 (Some types ∷ Some (replicate 32 0) ∷ Some interfaces ∷ Some (replicate 32 0) ∷ Some (replicate 32 0) ∷ [])
 
 -- endpoint 1 is iso of interface 0, endpoint 2 bulk of interface 1, endpoint 3 interrupt of interface 2; OUT and IN alike
 abbrev plain_interfaces : List ℕ
@@ -51,7 +50,7 @@ abbrev plain_table : SentPacket
 plain_table = endpoint_table_packet (rows_with 1 1 2 2 3 3) plain_interfaces
 
 abbrev interface_table : SentPacket
-interface_table = host_packet 4 0 (one 0 ∷ some (replicate 32 0) ∷ some (replicate 32 0) ∷ some (replicate 32 0) ∷ some (replicate 32 0) ∷ [])
+interface_table = host_packet 4 0 (one 0 ∷ Some (replicate 32 0) ∷ Some (replicate 32 0) ∷ Some (replicate 32 0) ∷ Some (replicate 32 0) ∷ [])
 
 abbrev connect_packet : SentPacket
 connect_packet = host_packet 1 0 (one 0 ∷ one 0 ∷ one 0 ∷ one 0 ∷ one 0 ∷ one 0 ∷ one 0 ∷ [])

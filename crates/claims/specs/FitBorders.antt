@@ -1,8 +1,6 @@
 -- What 43 tests of a session, at its borders; and what a fresh session is, field by field, row by row and place by place.
 -- Assumes nothing: these are definitions and statements. The proofs are by computation.
-use Rattle.std.specs.Prelude.{ℕ, Bool, true, false, [], ◌∷◌, ◌≡◌, replicate, set}
-use Rattle.header.specs.declared.HelloState.{HelloState}
-use Rattle.header.specs.declared.HelloState.TheVariants.{Awaited, Passed}
+use Rattle.std.specs.Prelude.{ℕ, Bool, true, false, [], ◌∷◌, ◌≡◌, replicate, set, Option, Some, None}
 use Rattle.device.specs.Device.{rows_of, start_rows, closed_row}
 use Rattle.device.specs.declared.Introduction.TheVariants.{Unintroduced}
 use Rattle.device.specs.declared.Rows.{Rows}
@@ -14,24 +12,24 @@ use Rattle.session.specs.declared.Session.{Session}
 use Rattle.session.specs.Session.{fresh_session, unfit}
 
 -- a session with these hellos and held counts, rows and requests
-abbrev session_with : HelloState → HelloState → ℕ → ℕ → Rows → Requests → Session
+abbrev session_with : Option ℕ → Option ℕ → ℕ → ℕ → Rows → Requests → Session
 session_with a b g h rows t =
     record { head = record { guest = a; host = b; stopped = false; held = record { guest = g; host = h }; present = true; introduction = Unintroduced; owed = false }; rows = rows; requests = t; watch = start_watch }
 
-abbrev holding : HelloState → HelloState → ℕ → ℕ → Bool
+abbrev holding : Option ℕ → Option ℕ → ℕ → ℕ → Bool
 holding a b g h = unfit (session_with a b g h start_rows fresh_requests)
 
 -- "a held count over 32,783 or, own hello passed and other's not, over 0", of either direction
 abbrev pub HeldCounts : Type 0
 HeldCounts =
-    (holding Awaited Awaited 32783 32783 ≡ false)
-    × (holding Awaited Awaited 32784 0 ≡ true)
-    × (holding Awaited Awaited 0 32784 ≡ true)
-    × (holding (Passed 0) (Passed 0) 32783 32783 ≡ false)
-    × (holding (Passed 0) Awaited 0 32783 ≡ false)
-    × (holding (Passed 0) Awaited 1 0 ≡ true)
-    × (holding Awaited (Passed 0) 32783 0 ≡ false)
-    × (holding Awaited (Passed 0) 0 1 ≡ true)
+    (holding None None 32783 32783 ≡ false)
+    × (holding None None 32784 0 ≡ true)
+    × (holding None None 0 32784 ≡ true)
+    × (holding (Some 0) (Some 0) 32783 32783 ≡ false)
+    × (holding (Some 0) None 0 32783 ≡ false)
+    × (holding (Some 0) None 1 0 ≡ true)
+    × (holding None (Some 0) 32783 0 ≡ false)
+    × (holding None (Some 0) 0 1 ≡ true)
 
 -- a request of a kind with an id
 abbrev request_with : ℕ → ℕ → Request
@@ -39,7 +37,7 @@ request_with kind id = record { id = id; kind = kind; target = 0; length = 0 }
 
 -- a session with these requests is unfit
 abbrev unfit_with : Requests → Bool
-unfit_with t = unfit (session_with (Passed 0) (Passed 0) 0 0 start_rows t)
+unfit_with t = unfit (session_with (Some 0) (Some 0) 0 0 start_rows t)
 
 -- one waits at place 2, and the other at place 95
 abbrev two_waiting : Request → Request → Bool
@@ -64,7 +62,7 @@ abbrev pub LiveBelowUsed : Type 0
 LiveBelowUsed = (used_to 0 ≡ false) × (used_to 95 ≡ false) × (used_to 96 ≡ true) × (used_to 97 ≡ true)
 
 abbrev row_typed : ℕ → ℕ → Bool
-row_typed r k = unfit (session_with (Passed 0) (Passed 0) 0 0 (record { types = set start_rows.types r k; interfaces = start_rows.interfaces; streams = start_rows.streams }) fresh_requests)
+row_typed r k = unfit (session_with (Some 0) (Some 0) 0 0 (record { types = set start_rows.types r k; interfaces = start_rows.interfaces; streams = start_rows.streams }) fresh_requests)
 
 -- "row 0 or 16 not control", and no other row is asked
 abbrev pub ControlRows : Type 0
@@ -76,7 +74,7 @@ abbrev pub FreshIs : Type 0
 FreshIs =
     fresh_session
     ≡ record {
-      head = record { guest = Awaited; host = Awaited; stopped = false; held = record { guest = 0; host = 0 }; present = false; introduction = Unintroduced; owed = false };
+      head = record { guest = None; host = None; stopped = false; held = record { guest = 0; host = 0 }; present = false; introduction = Unintroduced; owed = false };
       rows =
           record {
             types =

@@ -1,8 +1,7 @@
 -- The table of meanings says of each kind what document 01's lists say of it: all that the checks go by is the same of a packet's event and of
 -- its kind's number (`Agrees`).
 -- Assumes nothing: these are definitions and a statement.
-use Rattle.std.specs.Prelude.{Bool, true, cond, not, ◌&&◌, [], ◌∷◌, ◌≡◌}
-use Rattle.std.proofs.Math.Option.{some}
+use Rattle.std.specs.Prelude.{Bool, true, cond, not, ◌&&◌, [], ◌∷◌, ◌≡◌, Some}
 use Rattle.header.specs.declared.Side.{Side}
 use Rattle.device.specs.declared.Head.{Head}
 use Rattle.requests.specs.declared.Request.{Request}
@@ -68,4 +67,4 @@ grounds_by from p =
 -- for every packet of a known kind from an end that may send it
 abbrev pub Agrees : Type 0
 Agrees =
-    (from : Side) (p : Content) (k : Kind) → find p.kind kinds ≡ some k → sends k.sender from ≡ true → grounds_of (event_of from p) ≡ grounds_by from p
+    (from : Side) (p : Content) (k : Kind) → find p.kind kinds ≡ Some k → sends k.sender from ≡ true → grounds_of (event_of from p) ≡ grounds_by from p

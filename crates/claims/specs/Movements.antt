@@ -2,13 +2,10 @@
 -- field and each row by itself, by kind numbers and in the words of document 01, without the classes of `events` and the functions of
 -- `session`. `PacketMoves` says that the judge's next session is this one.
 -- Assumes nothing: these are definitions and a statement.
-use Rattle.std.specs.Prelude.{ℕ, ◌<◌, Bool, true, false, cond, not, ◌&&◌, ◌||◌, [], ◌∷◌, ◌≡◌, eqb}
-use Rattle.std.proofs.Math.Option.{Option, none, some}
+use Rattle.std.specs.Prelude.{ℕ, ◌<◌, Bool, true, false, cond, not, ◌&&◌, ◌||◌, [], ◌∷◌, ◌≡◌, eqb, Option, Some, None}
 use Rattle.octets.specs.Little.{le}
 use Rattle.endpoint.specs.Endpoint.{row_of}
 use Rattle.header.specs.declared.Side.{Side}
-use Rattle.header.specs.declared.HelloState.{HelloState}
-use Rattle.header.specs.declared.HelloState.TheVariants.{Awaited, Passed}
 use Rattle.device.specs.Device.{bulk, control, iso, interrupt, row_at, is_row, invalid}
 use Rattle.device.specs.declared.Introduction.TheVariants.{Unintroduced, Two, One}
 use Rattle.requests.specs.declared.Requests.{Requests}
@@ -43,8 +40,8 @@ names p r = is_row (row_of (endpoint_named p)) r
 
 -- the kind of the request that a reply answers, 0 where it answers none
 abbrev pub kind_in : Requests → Option ℕ → ℕ
-kind_in t none = 0
-kind_in t (some i) = (place_at t i).request.kind
+kind_in t None = 0
+kind_in t (Some i) = (place_at t i).request.kind
 
 abbrev pub answered_kind : Requests → Content → ℕ
 answered_kind t p = kind_in t (answered_at t p)
@@ -61,9 +58,9 @@ abbrev pub reports_on : Session → Content → ℕ → Bool
 reports_on s p r = among (14 ∷ 17 ∷ 27 ∷ []) p.kind && names p r && eqb (row_at s.rows r).ty (stream_type p.kind)
 
 -- the first hello of a side is kept
-abbrev pub first_hello : HelloState → ℕ → HelloState
-first_hello Awaited word = Passed word
-first_hello (Passed w) word = Passed w
+abbrev pub first_hello : Option ℕ → ℕ → Option ℕ
+first_hello None word = Some word
+first_hello (Some w) word = Some w
 
 -- row r's stream after the packet
 abbrev pub stream_after : Session → Content → ℕ → Bool

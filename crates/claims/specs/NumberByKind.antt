@@ -1,15 +1,14 @@
 -- The number of a packet, by kind numbers: the first of document 01's sentences that refuses it, in the order of their numbers but for 27 before
 -- 26. `NumberBy` says that the judge gives this number. Some tests of head, rows and table are those of `checks`; `Allowed.antt` has them in words.
 -- Assumes nothing: these are definitions and a statement.
-use Rattle.std.specs.Prelude.{ℕ, Bool, false, cond, not, ◌&&◌, ◌||◌, List, [], ◌∷◌, ◌≡◌, eqb, leb, ltb}
-use Rattle.std.proofs.Math.Option.{Option, none, some}
+use Rattle.std.specs.Prelude.{ℕ, Bool, false, cond, not, ◌&&◌, ◌||◌, List, [], ◌∷◌, ◌≡◌, eqb, leb, ltb, Option, Some, None, is_some}
 use Rattle.scan.specs.Scan.{first_at}
 use Rattle.header.specs.declared.Side.{Side}
 use Rattle.device.specs.declared.Head.{Head}
 use Rattle.device.specs.Device.{bulk, state_at}
 use Rattle.requests.specs.declared.Request.{Request}
 use Rattle.requests.specs.declared.Requests.{Requests}
-use Rattle.requests.specs.Requests.{Place, places_of, place_at, lowest, is_some, Free, Id, Settling}
+use Rattle.requests.specs.Requests.{Place, places_of, place_at, lowest, Free, Id, Settling}
 use Rattle.header.specs.Link.{is_guest}
 use Rattle.kinds.specs.Content.{Content}
 use Rattle.kinds.specs.Number.{wire_number}
@@ -32,8 +31,8 @@ disordered kind h =
 
 -- 28: the row of its endpoint, with the type that it wants of it; or the rows of a mask, all of them bulk
 abbrev pub row_by : Option ℕ → Content → Typed
-row_by none p = Untyped
-row_by (some k) p = OfEndpoint (endpoint_named p) k
+row_by None p = Untyped
+row_by (Some k) p = OfEndpoint (endpoint_named p) k
 
 abbrev pub typed_by : Side → Content → Typed
 typed_by from p = cond (among (18 ∷ 19 ∷ []) p.kind) (OfMask (said "mask" p) bulk) (row_by (wants from p.kind (inward_of p)) p)
@@ -48,8 +47,8 @@ answered_at t p = first_at (λ (q : Place). q.live && answers_by p q.request) 0 
 
 -- 34: the reply is longer than the request that was found asked for
 abbrev pub longer_than : Requests → Content → Option ℕ → Bool
-longer_than t p none = false
-longer_than t p (some i) = ltb (place_at t i).request.length (count_of p)
+longer_than t p None = false
+longer_than t p (Some i) = ltb (place_at t i).request.length (count_of p)
 
 -- ---- the sentences
 

@@ -3,10 +3,11 @@
 -- (`read_behind`).
 -- The tests before the wire checks are decided by what the caller knows of the header. A packet that passed was handed the header that was given.
 -- Assumes nothing.
+use Rattle.std.specs.Prelude.{Some, None, Ok, Err}
 use mathlib.Core.Path.{◌≡◌, refl, sym, ap, ◌∙◌}
 use mathlib.Core.Bool.{Bool, true, false, cond}
 use mathlib.Core.List.{List}
-use mathlib.Core.Option.{none, some, some-injective}
+use Rattle.std.proofs.lemmas.Option.{same_Some}
 use Prim.Native.Nat.{ℕ, ◌+◌, ◌≤◌}
 use native.Mathlib.Omega.{arith}
 use lib.ListN.{length, drop}
@@ -14,15 +15,15 @@ use lib.Dec.{eqb}
 use borrow.Author.Tests.{eq-eqb, le-ltb}
 use Rattle.header.specs.declared.Header.{Header}
 use Rattle.header.specs.declared.Link.{Link}
+use Rattle.header.specs.declared.Refusal.{Refusal}
+use Rattle.header.specs.Refusal.{number_of}
 use Rattle.header.specs.Link.{shared_set}
 use Rattle.header.specs.Header.{kind_of, length_of, header_of, header_size, header_number}
 use Rattle.kinds.specs.Number.{wire_number}
 use Rattle.kinds.specs.Codec.{decode, read_number}
 use Rattle.packet.specs.declared.Packet.{Packet}
 use Rattle.packet.specs.Packet.{shown_of, content_of}
-use Rattle.decoder.specs.declared.Reading.{Reading}
-use Rattle.decoder.specs.declared.Reading.TheVariants.{Refused, Decoded}
-use Rattle.decoder.specs.Reading.{PacketTold, Told, numbered, told_behind, told, rows_at, rest_at, kind_of_bytes, body_size, content_behind, behind_of, read_of}
+use Rattle.decoder.specs.Reading.{Reading, PacketTold, Told, numbered, told_behind, told, rows_at, rest_at, kind_of_bytes, body_size, content_behind, behind_of, read_of}
 
 pub record Refusing (l : Link) (bytes : List ℕ) (n : ℕ) : Type 0 where
   pub number : n ≡ read_number l bytes
@@ -35,31 +36,31 @@ pub record Passing (l : Link) (bytes : List ℕ) (h : Header) (p : Packet) : Typ
   pub rows : (shown_of (shared_set l) p).rows ≡ rows_at (shared_set l) (kind_of_bytes bytes)
   pub rest : (shown_of (shared_set l) p).rest ≡ rest_at (shared_set l) (kind_of_bytes bytes) (body_size l bytes)
 
-handed-none : (t : Bool) (b : PacketTold) → none ≡ cond t (some b) none → t ≡ false
+handed-none : (t : Bool) (b : PacketTold) → None ≡ cond t (Some b) None → t ≡ false
 handed-none true b e =
     let z : ◌≡◌ {A = ℕ} 0 1 = cc in
     absurd (omega arith)
 handed-none false b e = refl
 
 module _ {l : Link} {bytes : List ℕ} {r : Reading} (t : told l bytes r ≡ read_of l bytes) where
-  pub refusing : {n : ℕ} → r ≡ Refused n → Refusing l bytes n
+  pub refusing : {x : Refusal} → r ≡ Err x → Refusing l bytes (number_of x)
   unfolding read_of
   refusing e =
       let s = rw e at t in
       record { number = ap (λ (x : Told). x.number) s; nonzero = handed-none _ _ (ap (λ (x : Told). x.handed) s) }
 
-  pub passing : {h : Header} {p : Packet} → r ≡ Decoded h p → Passing l bytes h p
+  pub passing : {h : Header} {p : Packet} → r ≡ Ok (h, p) → Passing l bytes h p
   unfolding read_of
   passing e =
       let s = rw e at t in
       let z : read_number l bytes ≡ 0 = sym (ap (λ (x : Told). x.number) s) in
-      let g = some-injective _ _ (rw z at (ap (λ (x : Told). x.handed) s)) in
+      let g = same_Some _ _ (rw z at (ap (λ (x : Told). x.handed) s)) in
       record { number = z; header = ap (λ (x : PacketTold). x.header) g; content = ap (λ (x : PacketTold). x.content) g; rows = ap (λ (x : PacketTold). x.rows) g; rest = ap (λ (x : PacketTold). x.rest) g }
 
 -- ---- the body behind a header
 
 -- what is handed on has the header that was to be handed on
-same-header : (b : Bool) (x y : PacketTold) → some x ≡ cond b (some y) none → x.header ≡ y.header
+same-header : (b : Bool) (x y : PacketTold) → Some x ≡ cond b (Some y) None → x.header ≡ y.header
 same-header true x y e = let f : x ≡ y = cc in ap (λ (z : PacketTold). z.header) f
 same-header false x y e = let z : ◌≡◌ {A = ℕ} 0 1 = cc in absurd (omega arith)
 
@@ -67,11 +68,11 @@ same-header false x y e = let z : ◌≡◌ {A = ℕ} 0 1 = cc in absurd (omega 
 of-body : (l : Link) (bytes : List ℕ) (h : Header) (r : Reading) → told_behind l (drop h.size bytes) r ≡ behind_of l h (drop h.size bytes)
     → told l bytes r ≡ told_behind l (drop h.size bytes) r
 unfolding behind_of
-of-body l bytes h (Refused n) e = refl
-of-body l bytes h (Decoded g p) e =
+of-body l bytes h (Err x) e = refl
+of-body l bytes h (Ok (g, p)) e =
     let w : ℕ = wire_number l (content_behind l h (drop h.size bytes)) in
     let s : g ≡ h = same-header (eqb w 0) _ _ (ap (λ (t : Told). t.handed) e) in
-    λ i. told_behind l (drop (s i).size bytes) (Decoded g p)
+    λ i. told_behind l (drop (s i).size bytes) (Ok (g, p))
 
 -- the bytes are as many as their header says, and nothing refuses it
 module _ (l : Link) (bytes : List ℕ) (whole : length bytes ≡ header_size l (kind_of bytes) + length_of bytes) (passes : header_number l (kind_of bytes) (length_of bytes) ≡ 0) where

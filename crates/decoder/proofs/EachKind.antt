@@ -1,12 +1,13 @@
 -- Each reading of a kind below 100 says what the table says: a law for each variant, and how an arm of the code cites it.
 -- Assumes nothing.
+use Rattle.std.specs.Bool.{then_some}
+use Rattle.std.specs.Prelude.{Some, None}
 use Prim.Native.Nat.{ℕ, zero, suc, ◌+◌, ◌*◌, ◌≤◌, ◌<◌}
 use native.Mathlib.Nat.{mul-suc}
 use native.Mathlib.Omega.{arith}
 use mathlib.Core.Path.{◌≡◌, refl, sym, ap, subst, ◌∙◌}
 use mathlib.Core.Bool.{Bool, true, false, cond, ◌&&◌}
 use mathlib.Core.List.{List, [], ◌∷◌, ◌++◌}
-use mathlib.Core.Option.{none, some}
 use lib.ListN.{length, take, drop, length-drop, drop_of_length-le, take-append-drop}
 use lib.Seq.{take-length, length-take-le}
 use lib.Dec.{eqb, leb}
@@ -20,7 +21,7 @@ use Rattle.kinds.specs.Codec.{layout, content_at}
 use Rattle.kinds.proofs.FieldBytes.{split-full}
 use Rattle.packet.specs.declared.Packet.{Packet}
 use Rattle.packet.specs.declared.Packet.TheVariants.{Hello, Connect, Disconnect, Reset, InterfaceTable, EndpointTable, SetConfiguration, GetConfiguration, ConfigurationStatus, SetAlt, GetAlt, AltStatus, StartIso, StopIso, IsoStatus, StartInterrupt, StopInterrupt, InterruptStatus, AllocStreams, FreeStreams, StreamsStatus, Cancel, FilterReject, Filter, DisconnectAck, StartBulkReceiving, StopBulkReceiving, BulkReceivingStatus}
-use Rattle.packet.specs.Packet.{content_of, single, rows_in, optional, optional16_of}
+use Rattle.packet.specs.Packet.{content_of, single, rows_in}
 use Rattle.decoder.specs.Body.{Fits, ReadsBody}
 
 none_left : (body : List ℕ) (n : ℕ) → length body ≡ n → drop n body ≡ []
@@ -241,15 +242,15 @@ filter caps body f =
 
 -- ---- the kinds with a field that may be absent, and the tables
 
-optional-value : (b : Bool) (x : ℕ) → single (optional (optional16_of b x)) ≡ cond b (one x) none
+optional-value : (b : Bool) (x : ℕ) → single ((then_some b x)) ≡ cond b (one x) None
 optional-value true x = refl
 optional-value false x = refl
 
 pub connect : (caps : ℕ) (body : List ℕ) → Fits caps 1 body
-    → ReadsBody caps 1 body (Connect (record { speed = le 1 body 0; class = le 1 body 1; subclass = le 1 body 2; protocol = le 1 body 3; vendor = le 2 body 4; product = le 2 body 6; version = optional16_of (has_bit caps 1) (le 2 body 8) }))
+    → ReadsBody caps 1 body (Connect (record { speed = le 1 body 0; class = le 1 body 1; subclass = le 1 body 2; protocol = le 1 body 3; vendor = le 2 body 4; product = le 2 body 6; version = then_some (has_bit caps 1) (le 2 body 8) }))
 unfolding kinds layout content_of content_at
 connect caps body f =
-    let e : single (optional (optional16_of (has_bit caps 1) (le 2 body 8))) ≡ cond (has_bit caps 1) (one (le 2 body 8)) none = optional-value (has_bit caps 1) (le 2 body 8) in
+    let e : single ((then_some (has_bit caps 1) (le 2 body 8))) ≡ cond (has_bit caps 1) (one (le 2 body 8)) None = optional-value (has_bit caps 1) (le 2 body 8) in
     record {
       content = λ id.
           (λ i. record { kind = 1; id = id; fields = one (le 1 body 0) ∷ one (le 1 body 1) ∷ one (le 1 body 2) ∷ one (le 1 body 3) ∷ one (le 2 body 4) ∷ one (le 2 body 6) ∷ e i ∷ []; rest = [] })
@@ -279,7 +280,7 @@ hello caps body f =
     let m : leb 64 (length body) ≡ true = le-leb 64 (length body) f.there in
     let e : drop 64 (take (length body) body) ≡ drop 64 body = ap (drop 64) (take-length body) in
     record {
-      content = λ id. rw (t, l, m) (λ i. record { kind = 0; id = id; fields = some (front-numbers 1 64 body f.there i) ∷ []; rest = e i });
+      content = λ id. rw (t, l, m) (λ i. record { kind = 0; id = id; fields = Some (front-numbers 1 64 body f.there i) ∷ []; rest = e i });
       rows = refl;
       rest = refl;
     }

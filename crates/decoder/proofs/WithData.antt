@@ -1,11 +1,11 @@
 -- Each reading of a kind with data says what the table says, where the fields are there: a law for each variant.
 -- Assumes nothing.
+use Rattle.std.specs.Prelude.{Some, None}
 use Prim.Native.Nat.{ℕ, ◌+◌, ◌*◌, ◌/◌, ◌%◌, ◌≤◌, ◌<◌}
 use native.Mathlib.Omega.{arith}
 use mathlib.Core.Path.{◌≡◌, refl, sym, ap, ◌∙◌}
 use mathlib.Core.Bool.{Bool, true, false, cond, ◌||◌}
 use mathlib.Core.List.{List, [], ◌∷◌}
-use mathlib.Core.Option.{none, some}
 use lib.ListN.{length, take, drop}
 use lib.Seq.{take-length}
 use lib.Dec.{ltb}
@@ -50,7 +50,7 @@ count_low : (b : Bool) (low x : ℕ) → low < 65536 → cond b (low + 65536 * x
 count_low true low x h = omega arith
 count_low false low x h = omega arith
 
-count-high : (b : Bool) (low x : ℕ) → low < 65536 → single (cond (b || ltb 65535 (cond b (low + 65536 * x) low)) (some (cond b (low + 65536 * x) low / 65536)) none) ≡ cond b (one x) none
+count-high : (b : Bool) (low x : ℕ) → low < 65536 → single (cond (b || ltb 65535 (cond b (low + 65536 * x) low)) (Some (cond b (low + 65536 * x) low / 65536)) None) ≡ cond b (one x) None
 count-high true low x h = let e : (low + 65536 * x) / 65536 ≡ x = omega arith in ap one e
 count-high false low x h = rw (le-ltb 65535 low (omega arith))
 
@@ -68,7 +68,7 @@ unfolding kinds layout content_of content_at
 bulk caps body h there =
     let b : Bool = has_bit caps 6 in
     let lo : bulk_count caps body % 65536 ≡ le 2 body 2 = count_low b (le 2 body 2) (le 2 body 8) h in
-    let hi : single (high caps (bulk_count caps body)) ≡ cond b (one (le 2 body 8)) none = count-high b (le 2 body 2) (le 2 body 8) h in
+    let hi : single (high caps (bulk_count caps body)) ≡ cond b (one (le 2 body 8)) None = count-high b (le 2 body 2) (le 2 body 8) h in
     let d : drop (cond b 10 8) (take (length body) body) ≡ drop (size (shared caps) (kind_at 29).fields) body = ap (drop (cond b 10 8)) (take-length body) ∙ ap (λ (n : ℕ). drop n body) (size-bulk caps) in
     record {
       content = λ id.

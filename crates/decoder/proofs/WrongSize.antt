@@ -1,12 +1,12 @@
--- The number of a body that lacks a field (`lacks`), or has bytes behind its fields where nothing may follow them, is `missized` (`misfits`), and
--- never 0 (`misfit-refused`); any other body of a kind below 100 fits (`fits`).
+-- The number of a body that lacks a field (`lacks`), or has bytes behind its fields where nothing may follow them, is `missized` (`misfits`);
+-- any other body of a kind below 100 fits (`fits`).
 -- In either case `size_ok` fails (`too_short`, `too_long`), so that only 21 and 22 can come before 23, and what is behind it is not asked. What is
 -- read off the wire has no field that is not shared, by induction over the fields (`none-surplus`): 22 is left for the kind's bit and the id.
 -- Assumes nothing.
+use Rattle.std.specs.Prelude.{Some, None}
 use mathlib.Core.Path.{◌≡◌, refl, sym, ap, ◌∙◌}
 use mathlib.Core.Bool.{Bool, true, false, cond, not, ◌&&◌, ◌||◌, or-false, false≢true}
 use mathlib.Core.List.{List, [], ◌∷◌}
-use mathlib.Core.Option.{none, some}
 use Prim.Native.Nat.{ℕ, ◌-◌, ◌^◌, ◌≤◌, ◌<◌}
 use native.Mathlib.Omega.{arith}
 use lib.ListN.{length, drop, length-drop}
@@ -36,7 +36,7 @@ none-surplus caps (f ∷ fs) s = go (shared caps f.there) refl (none-surplus cap
     rest : List Value
     rest = split (shared caps) fs (drop (size_of (shared caps) f) s)
 
-    go : (b : Bool) → shared caps f.there ≡ b → surplus caps fs rest ≡ false → surplus caps (f ∷ fs) (cond b (some (whole f s)) none ∷ rest) ≡ false
+    go : (b : Bool) → shared caps f.there ≡ b → surplus caps fs rest ≡ false → surplus caps (f ∷ fs) (cond b (Some (whole f s)) None ∷ rest) ≡ false
     go true e ih = ap (λ (t : Bool). not t || surplus caps fs rest) e ∙ ih
     go false e ih = ih
 
@@ -106,17 +106,6 @@ module _ (l : Link) (slot id : ℕ) (body : List ℕ) (small : slot < 33) (fits 
       of_size (cases (ltb n m) (λ e. too_short (ltb-true n m e))
       (λ e. let b : (not (carries (kind_at slot)) && ltb m n) ≡ true = ap (λ (t : Bool). t || (not (carries (kind_at slot)) && ltb m n)) (sym e) ∙ h in
       too_long (not-true (carries (kind_at slot)) (and_parts (not (carries (kind_at slot))) (ltb m n) b).0) (ltb-true m n (and_parts (not (carries (kind_at slot))) (ltb m n) b).1)))
-
--- it is never 0
-refused-by : (a b : Bool) → in_order a b true false false ≡ 0 → ⊥
-refused-by true b e = omega arith
-refused-by false true e = omega arith
-refused-by false false e = omega arith
-
-pub misfit-refused : (l : Link) (slot id : ℕ) → missized l slot id ≡ 0 → ⊥
-misfit-refused l slot id e =
-    refused-by (not (sends (kind_at slot).sender l.sender))
-    (not (shared (shared_set l) (kind_at slot).needs) || (not (eqb slot 0) && not (has_bit (shared_set l) 5) && leb 4294967296 id)) e
 
 -- ---- a body that fits
 

@@ -1,6 +1,6 @@
 -- The steps of reading as the code takes them: a body of a known kind, its fields, its number.
 -- Assumes nothing: these are definitions.
-use Rattle.std.specs.Prelude.{ℕ, ◌+◌, ◌*◌, ◌≤◌, ◌<◌, ◌≡◌, false, cond, List, length, eqb}
+use Rattle.std.specs.Prelude.{ℕ, ◌+◌, ◌*◌, ◌≤◌, ◌<◌, ◌≡◌, false, cond, List, length}
 use Rattle.octets.specs.Little.{le}
 use Rattle.octets.specs.Bits.{has_bit}
 use Rattle.header.specs.declared.Header.{Header}
@@ -12,9 +12,7 @@ use Rattle.kinds.specs.Number.{wire_number}
 use Rattle.kinds.specs.Codec.{content_at}
 use Rattle.packet.specs.declared.Packet.{Packet}
 use Rattle.packet.specs.Packet.{shown_of, content_of}
-use Rattle.decoder.specs.declared.Reading.{Reading}
-use Rattle.decoder.specs.declared.Reading.TheVariants.{Refused, Decoded}
-use Rattle.decoder.specs.Reading.{Told, numbered, told_behind, carries, rows_at, rest_at}
+use Rattle.decoder.specs.Reading.{Reading, Told, numbered, told_behind, carries, rows_at, rest_at}
 
 abbrev pub bulk_count : ℕ → List ℕ → ℕ
 bulk_count caps body = cond (has_bit caps 6) (le 2 body 2 + 65536 * le 2 body 8) (le 2 body 2)
@@ -30,10 +28,6 @@ pub record ReadsBody (caps slot : ℕ) (body : List ℕ) (p : Packet) : Type 0 w
   pub content : (id : ℕ) → content_of caps id p body ≡ content_at caps (kind_at slot).number id body
   pub rows : (shown_of caps p).rows ≡ rows_at caps (kind_at slot)
   pub rest : (shown_of caps p).rest ≡ rest_at caps (kind_at slot) (length body)
-
--- a packet with its number
-abbrev pub finished : Header → ℕ → Packet → Reading
-finished h n p = cond (eqb n 0) (Decoded h p) (Refused n)
 
 -- what a reading of a body of a known kind has to tell
 abbrev pub content_in : Link → Header → ℕ → List ℕ → Content

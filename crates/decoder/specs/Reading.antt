@@ -1,20 +1,24 @@
 -- What a reading tells, for each of its cases: the number and, where it passed, the header, what the packet says,
 -- and the parts of the body that it names.
 -- Assumes nothing: these are definitions.
-use Rattle.std.specs.Prelude.{ℕ, Bool, true, false, cond, not, List, [], ◌∷◌, length, drop, eqb}
-use Rattle.std.proofs.Math.Option.{Option, none, some}
+use Rattle.std.specs.Prelude.{ℕ, Bool, true, false, cond, not, List, [], ◌∷◌, length, drop, eqb, Option, Some, None, Result, Ok, Err}
 use Rattle.header.specs.declared.Header.{Header}
 use Rattle.header.specs.declared.Link.{Link}
+use Rattle.header.specs.declared.Refusal.{Refusal}
+use Rattle.header.specs.Refusal.{number_of}
 use Rattle.header.specs.Link.{shared_set}
 use Rattle.header.specs.Header.{header_of, kind_of, header_size}
 use Rattle.kinds.specs.Table.{Field, Tail, nothing, words, string, payload, payload-onward, Kind, kinds, none_such}
 use Rattle.kinds.specs.Content.{Content, shared, size, find}
 use Rattle.kinds.specs.Number.{wire_number}
 use Rattle.kinds.specs.Codec.{content_at, decode, read_number}
+use Rattle.packet.specs.declared.Packet.{Packet}
 use Rattle.packet.specs.declared.Part.{Part}
 use Rattle.packet.specs.Packet.{no_part, shown_of, content_of}
-use Rattle.decoder.specs.declared.Reading.{Reading}
-use Rattle.decoder.specs.declared.Reading.TheVariants.{Refused, Decoded}
+
+-- the header and the packet that the bytes are, or why they are refused
+abbrev pub Reading : Type 0
+Reading = Result (Header × Packet) Refusal
 
 -- a packet that passed
 pub record PacketTold : Type 0 where
@@ -29,21 +33,21 @@ pub record Told : Type 0 where
 
 -- a number, with what is handed on where it is 0
 abbrev pub numbered : ℕ → PacketTold → Told
-numbered n x = record { number = n; handed = cond (eqb n 0) (some x) none }
+numbered n x = record { number = n; handed = cond (eqb n 0) (Some x) None }
 
 -- of a body behind a header
 abbrev pub told_behind : Link → List ℕ → Reading → Told
-told_behind l body (Refused n) = record { number = n; handed = none }
-told_behind l body (Decoded h p) =
+told_behind l body (Err r) = record { number = number_of r; handed = None }
+told_behind l body (Ok (h, p)) =
     record {
       number = 0;
-      handed = some (record { header = h; content = content_of (shared_set l) h.id p body; rows = (shown_of (shared_set l) p).rows; rest = (shown_of (shared_set l) p).rest });
+      handed = Some (record { header = h; content = content_of (shared_set l) h.id p body; rows = (shown_of (shared_set l) p).rows; rest = (shown_of (shared_set l) p).rest });
     }
 
 -- of a packet's bytes: its body stands behind its header
 abbrev pub told : Link → List ℕ → Reading → Told
-told l bytes (Refused n) = record { number = n; handed = none }
-told l bytes (Decoded h p) = told_behind l (drop h.size bytes) (Decoded h p)
+told l bytes (Err r) = record { number = number_of r; handed = None }
+told l bytes (Ok (h, p)) = told_behind l (drop h.size bytes) (Ok (h, p))
 
 -- ---- the parts of the body that a packet of a kind names
 
@@ -74,8 +78,8 @@ abbrev pub rest_at : ℕ → Kind → ℕ → Part
 rest_at caps k n = cond (carries k) (record { start = size (shared caps) k.fields; end = n }) no_part
 
 abbrev pub kind_or : Option Kind → Kind
-kind_or none = none_such
-kind_or (some k) = k
+kind_or None = none_such
+kind_or (Some k) = k
 
 -- the kind of a packet's bytes, and how long its body is
 abbrev pub kind_of_bytes : List ℕ → Kind

@@ -1,33 +1,28 @@
 // Reading: the bytes of one whole packet to its number or its packet.
 #![tactic(auto)]
 
-ghost use Rattle.std.specs.Prelude.{◌≡◌, ◌≤◌, ◌<◌, ◌^◌, length};
+ghost use Rattle.std.specs.Prelude.{◌≡◌, ◌≤◌, ◌<◌, ◌^◌, cond, length, MatchResult};
+ghost use Rattle.octets.specs.Bits.{has_bit};
 ghost use Rattle.octets.specs.Little.{le};
+ghost use Rattle.header.specs.Link.{shared_set};
 ghost use Rattle.kinds.specs.Table.{kind_at};
+ghost use Rattle.kinds.specs.Content.{shared, size};
 ghost use Rattle.decoder.specs.Reading.{told_behind, told, behind_of, read_of, carries};
-ghost use Rattle.decoder.specs.Body.{Fits, ReadsBody, ReadsKind, bulk_count, finished};
+ghost use Rattle.decoder.specs.Body.{Fits, ReadsBody, ReadsKind, bulk_count};
 
 use endpoint::Endpoint;
-use header::{Header, Link, header_number, read_header, shared_set};
+use header::{Header, Link, Refusal, check_header, read_header, shared_set};
 use kinds::fields_size;
-use octets::{choose, get8, get16, get32, has_bit};
+use octets::{get8, get16, get32, has_bit};
 use packet::{
     AllocStreams, AltStatus, BufferedBulk, Bulk, BulkReceivingStatus, ConfigurationStatus, Connect,
     Control, EndpointTable, Filter, FreeStreams, GetAlt, Hello, InterfaceTable, Interrupt,
     InterruptStatus, Iso, IsoStatus, Packet, Part, SetAlt, SetConfiguration, StartBulkReceiving,
-    StartInterrupt, StartIso, StopBulkReceiving, StopInterrupt, StopIso, StreamsStatus, given16,
+    StartInterrupt, StartIso, StopBulkReceiving, StopInterrupt, StopIso, StreamsStatus,
 };
 use rules::{
-    buffered_number, bulk_number, control_number, interrupt_number, iso_number, size_number,
-    wire_number,
+    check_buffered, check_bulk, check_control, check_interrupt, check_iso, check_wire, wrong_size,
 };
-
-// The number by which the bytes are refused, or the header and the packet that they are.
-#[derive(Clone, Copy)]
-pub enum Reading {
-    Refused(u8),
-    Decoded(Header, Packet),
-}
 
 // The body from a place on.
 fn after(body: &[u8], at: usize) -> Part
@@ -57,6 +52,13 @@ fn bulk_count(caps: u32, body: &[u8]) -> u32
     }
 }
 
+// The bytes of a bulk packet's fields, with the count's high half or without.
+fn bulk_fields(caps: u32) -> usize
+    ensures { result ≡ cond (has_bit caps 6) 10 8 }
+{
+    if has_bit(caps, 6) { 10 } else { 8 }
+}
+
 // Something may follow the fields of the kind, which is below 100.
 fn has_rest(slot: usize) -> bool
     requires { slot < 28 }
@@ -82,7 +84,7 @@ fn read_body(caps: u32, slot: usize, body: &[u8]) -> Packet
             protocol: get8(body, 3),
             vendor: get16(body, 4),
             product: get16(body, 6),
-            version: given16(has_bit(caps, 1), get16(body, 8)),
+            version: has_bit(caps, 1).then_some(get16(body, 8)),
         }),
         2 => Packet::Disconnect,
         3 => Packet::Reset,
@@ -177,154 +179,119 @@ fn read_body(caps: u32, slot: usize, body: &[u8]) -> Packet
     }
 }
 
-// A packet with its number: it passes where that is 0.
-fn finish(h: Header, number: u8, p: Packet) -> Reading
-    ensures { result ≡ finished h number p }
+// The fields of a kind with data, which take so many bytes, are all there.
+fn check_fields(l: Link, h: Header, slot: usize, fields: usize, body: &[u8]) -> Result<(), Refusal>
+    requires { (slot < 33) × (fields ≡ size (shared (shared_set l)) (kind_at slot).fields) }
+    ensures { MatchResult result (λ u. fields ≤ length body.now) (λ r. ReadsKind l h slot body.now (Err r)) }
 {
-    if number == 0 {
-        Reading::Decoded(h, p)
-    } else {
-        Reading::Refused(number)
+    if body.len() < fields {
+        return Err(wrong_size(l, slot, h.id));
     }
+    Ok(())
 }
 
 // A body of a kind below 100 behind its header.
-fn read_kind(l: Link, h: Header, slot: usize, body: &[u8]) -> Reading
+fn read_kind(l: Link, h: Header, slot: usize, body: &[u8]) -> Result<(Header, Packet), Refusal>
     requires { slot < 28 }
     ensures { ReadsKind l h slot body.now result }
 {
     let caps = shared_set(l);
-    let id = h.id;
     let n = body.len();
     let size = fields_size(slot, caps);
     if (n < size) | (!has_rest(slot) & (size < n)) {
-        return Reading::Refused(size_number(l, slot, id));
+        return Err(wrong_size(l, slot, h.id));
     }
     let p = read_body(caps, slot, body);
-    finish(h, wire_number(l, id, p, body), p)
+    check_wire(l, h.id, p, body)?;
+    Ok((h, p))
 }
 
-// A body of each kind with data behind its header. Its packet is judged by its own fields, with no `match` over all kinds.
-fn read_control(l: Link, h: Header, body: &[u8]) -> Reading
+// A body of each kind with data behind its header. Its packet is judged by its own fields, with no `match` over all
+// kinds.
+fn read_control(l: Link, h: Header, body: &[u8]) -> Result<(Header, Packet), Refusal>
     ensures { ReadsKind l h 28 body.now result }
 {
-    if body.len() < 10 {
-        return Reading::Refused(size_number(l, 28, h.id));
-    }
-    let endpoint = Endpoint(get8(body, 0));
-    let request = get8(body, 1);
-    let requesttype = get8(body, 2);
-    let status = get8(body, 3);
-    let value = get16(body, 4);
-    let index = get16(body, 6);
-    let length = get16(body, 8);
-    let payload = after(body, 10);
+    check_fields(l, h, 28, 10, body)?;
     let p = Control {
-        endpoint,
-        request,
-        requesttype,
-        status,
-        value,
-        index,
-        length,
-        payload,
+        endpoint: Endpoint(get8(body, 0)),
+        request: get8(body, 1),
+        requesttype: get8(body, 2),
+        status: get8(body, 3),
+        value: get16(body, 4),
+        index: get16(body, 6),
+        length: get16(body, 8),
+        payload: after(body, 10),
     };
-    finish(h, control_number(l, h.id, p, body), Packet::Control(p))
+    check_control(l, h.id, p, body)?;
+    Ok((h, Packet::Control(p)))
 }
 
-fn read_bulk(l: Link, h: Header, body: &[u8]) -> Reading
+fn read_bulk(l: Link, h: Header, body: &[u8]) -> Result<(Header, Packet), Refusal>
     ensures { ReadsKind l h 29 body.now result }
 {
     let caps = shared_set(l);
-    let head = choose(has_bit(caps, 6), 10, 8);
-    if body.len() < head {
-        return Reading::Refused(size_number(l, 29, h.id));
-    }
-    let endpoint = Endpoint(get8(body, 0));
-    let status = get8(body, 1);
-    let length = bulk_count(caps, body);
-    let stream = get32(body, 4);
-    let payload = after(body, head);
+    let fields = bulk_fields(caps);
+    check_fields(l, h, 29, fields, body)?;
     let p = Bulk {
-        endpoint,
-        status,
-        length,
-        stream,
-        payload,
+        endpoint: Endpoint(get8(body, 0)),
+        status: get8(body, 1),
+        length: bulk_count(caps, body),
+        stream: get32(body, 4),
+        payload: after(body, fields),
     };
-    finish(h, bulk_number(l, h.id, p, body), Packet::Bulk(p))
+    check_bulk(l, h.id, p, body)?;
+    Ok((h, Packet::Bulk(p)))
 }
 
-fn read_iso(l: Link, h: Header, body: &[u8]) -> Reading
+fn read_iso(l: Link, h: Header, body: &[u8]) -> Result<(Header, Packet), Refusal>
     ensures { ReadsKind l h 30 body.now result }
 {
-    if body.len() < 4 {
-        return Reading::Refused(size_number(l, 30, h.id));
-    }
-    let endpoint = Endpoint(get8(body, 0));
-    let status = get8(body, 1);
-    let length = get16(body, 2);
-    let payload = after(body, 4);
+    check_fields(l, h, 30, 4, body)?;
     let p = Iso {
-        endpoint,
-        status,
-        length,
-        payload,
+        endpoint: Endpoint(get8(body, 0)),
+        status: get8(body, 1),
+        length: get16(body, 2),
+        payload: after(body, 4),
     };
-    finish(h, iso_number(l, h.id, p, body), Packet::Iso(p))
+    check_iso(l, h.id, p, body)?;
+    Ok((h, Packet::Iso(p)))
 }
 
-fn read_interrupt(l: Link, h: Header, body: &[u8]) -> Reading
+fn read_interrupt(l: Link, h: Header, body: &[u8]) -> Result<(Header, Packet), Refusal>
     ensures { ReadsKind l h 31 body.now result }
 {
-    if body.len() < 4 {
-        return Reading::Refused(size_number(l, 31, h.id));
-    }
-    let endpoint = Endpoint(get8(body, 0));
-    let status = get8(body, 1);
-    let length = get16(body, 2);
-    let payload = after(body, 4);
+    check_fields(l, h, 31, 4, body)?;
     let p = Interrupt {
-        endpoint,
-        status,
-        length,
-        payload,
+        endpoint: Endpoint(get8(body, 0)),
+        status: get8(body, 1),
+        length: get16(body, 2),
+        payload: after(body, 4),
     };
-    finish(h, interrupt_number(l, h.id, p, body), Packet::Interrupt(p))
+    check_interrupt(l, h.id, p, body)?;
+    Ok((h, Packet::Interrupt(p)))
 }
 
-fn read_buffered(l: Link, h: Header, body: &[u8]) -> Reading
+fn read_buffered(l: Link, h: Header, body: &[u8]) -> Result<(Header, Packet), Refusal>
     ensures { ReadsKind l h 32 body.now result }
 {
-    if body.len() < 10 {
-        return Reading::Refused(size_number(l, 32, h.id));
-    }
-    let stream = get32(body, 0);
-    let length = get32(body, 4);
-    let endpoint = Endpoint(get8(body, 8));
-    let status = get8(body, 9);
-    let payload = after(body, 10);
+    check_fields(l, h, 32, 10, body)?;
     let p = BufferedBulk {
-        stream,
-        length,
-        endpoint,
-        status,
-        payload,
+        stream: get32(body, 0),
+        length: get32(body, 4),
+        endpoint: Endpoint(get8(body, 8)),
+        status: get8(body, 9),
+        payload: after(body, 10),
     };
-    finish(
-        h,
-        buffered_number(l, h.id, p, body),
-        Packet::BufferedBulk(p),
-    )
+    check_buffered(l, h.id, p, body)?;
+    Ok((h, Packet::BufferedBulk(p)))
 }
 
 // A body of kinds 100 to 104 behind its header.
-fn read_data(l: Link, h: Header, body: &[u8]) -> Reading
+fn read_data(l: Link, h: Header, body: &[u8]) -> Result<(Header, Packet), Refusal>
     requires { (100 ≤ h.kind) × (h.kind ≤ 104) }
     ensures { told_behind l body.now result ≡ behind_of l h body.now }
 {
-    let kind = h.kind;
-    match kind {
+    match h.kind {
         100 => read_control(l, h, body),
         101 => read_bulk(l, h, body),
         102 => read_iso(l, h, body),
@@ -334,35 +301,29 @@ fn read_data(l: Link, h: Header, body: &[u8]) -> Reading
 }
 
 // The packet behind a header: its kind and id are the header's, whose length is not looked at.
-pub fn read_behind(l: Link, h: Header, body: &[u8]) -> Reading
+pub fn read_behind(l: Link, h: Header, body: &[u8]) -> Result<(Header, Packet), Refusal>
     ensures { told_behind l body.now result ≡ behind_of l h body.now }
 {
-    let kind = h.kind;
-    match kind {
-        0..=27 => read_kind(l, h, kind as usize, body),
+    match h.kind {
+        0..=27 => read_kind(l, h, h.kind as usize, body),
         100..=104 => read_data(l, h, body),
-        _ => Reading::Refused(20),
+        _ => Err(Refusal::UnknownKind),
     }
 }
 
-// The bytes of one whole packet, under what both hellos offered: 10 to 12 by the header, 23 where the bytes are not as many as it
-// says, else the wire checks.
-pub fn read(l: Link, bytes: &[u8]) -> Reading
+// The bytes of one whole packet, under what both hellos offered: 10 to 12 by the header, 23 where the bytes are not
+// as many as it says, else the wire checks.
+pub fn read(l: Link, bytes: &[u8]) -> Result<(Header, Packet), Refusal>
     ensures { told l bytes.now result ≡ read_of l bytes.now }
 {
     let h = read_header(l, bytes);
-    let kind = h.kind;
     let length = h.length as usize;
-    let size = h.size;
-    if bytes.len() < size {
-        return Reading::Refused(23);
+    if bytes.len() < h.size {
+        return Err(Refusal::WrongSize);
     }
-    let number = header_number(l, kind, length);
-    if number != 0 {
-        return Reading::Refused(number);
+    check_header(l, h.kind, length)?;
+    if bytes.len() != h.size + length {
+        return Err(Refusal::WrongSize);
     }
-    if bytes.len() != size + length {
-        return Reading::Refused(23);
-    }
-    read_behind(l, h, &bytes[size..])
+    read_behind(l, h, &bytes[h.size..])
 }

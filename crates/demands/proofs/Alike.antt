@@ -4,12 +4,12 @@
 -- shared set and by whether the sender's hello has passed (`AlikeLinks`): each definition over links is taken along these. Of a session the hellos
 -- alone are other ones (`with_hellos`), and no session check looks at them.
 -- Assumes nothing.
+use Rattle.std.specs.Prelude.{Option, Some, None}
 use Prim.Native.Nat.{ℕ, zero, suc, ◌+◌, ◌-◌, ◌*◌, ◌/◌, ◌%◌, ◌^◌, ◌≤◌, ◌<◌}
 use native.Mathlib.Omega.{arith}
 use mathlib.Core.Path.{◌≡◌, refl, sym, ap, ap₂, subst, ◌∙◌}
 use mathlib.Core.Bool.{Bool, true, false, cond, not, ◌&&◌, ◌||◌}
 use mathlib.Core.List.{List, ◌++◌}
-use mathlib.Core.Option.{Option, none, some}
 use lib.Bits.{bit_and, and_mask, and_mod}
 use lib.Pow.{mod-pow-add, mod-mod-pow, field}
 use lib.ListN.{length, drop}
@@ -20,8 +20,6 @@ use Rattle.octets.specs.Bits.{has_bit}
 use Rattle.octets.specs.Little.{le, bytes_of}
 use Rattle.header.specs.declared.Side.{Side}
 use Rattle.header.specs.declared.Side.TheVariants.{Guest, Host}
-use Rattle.header.specs.declared.HelloState.{HelloState}
-use Rattle.header.specs.declared.HelloState.TheVariants.{Awaited, Passed}
 use Rattle.header.specs.declared.Link.{Link}
 use Rattle.header.specs.Link.{is_guest, offered, passed, own, shared_set, id_width}
 use Rattle.header.specs.Header.{kind_of, length_of, header_size, header_bytes, header_number}
@@ -82,17 +80,17 @@ same_bits v w e j h = ap (λ (x : ℕ). eqb x 1) (digit v j h ∙ ap (λ (r : �
 
 -- ---- links
 
-offered-same : (g h : HelloState) → AlikeHellos g h → offered g % 256 ≡ offered h % 256
-offered-same Awaited Awaited a = refl
-offered-same Awaited (Passed w) a = absurd a
-offered-same (Passed v) Awaited a = absurd a
-offered-same (Passed v) (Passed w) a = same_low v w a
+offered-same : (g h : Option ℕ) → AlikeHellos g h → offered g % 256 ≡ offered h % 256
+offered-same None None a = refl
+offered-same None (Some w) a = absurd a
+offered-same (Some v) None a = absurd a
+offered-same (Some v) (Some w) a = same_low v w a
 
-passed-same : (g h : HelloState) → AlikeHellos g h → passed g ≡ passed h
-passed-same Awaited Awaited a = refl
-passed-same Awaited (Passed w) a = absurd a
-passed-same (Passed v) Awaited a = absurd a
-passed-same (Passed v) (Passed w) a = refl
+passed-same : (g h : Option ℕ) → AlikeHellos g h → passed g ≡ passed h
+passed-same None None a = refl
+passed-same None (Some w) a = absurd a
+passed-same (Some v) None a = absurd a
+passed-same (Some v) (Some w) a = refl
 
 -- what a link decides by
 pub record AlikeLinks (l m : Link) : Type 0 where
@@ -147,8 +145,8 @@ module _ (l m : Link) (a : AlikeLinks l m) where
   wire-same p = go (find p.kind kinds)
     where
       go : (o : Option Kind) → by_kind l o p ≡ by_kind m o p
-      go none = refl
-      go (some k) = kind-same k p
+      go None = refl
+      go (Some k) = kind-same k p
 
   pub read_same : (b : List ℕ) → read_number l b ≡ read_number m b
   unfolding read_number
@@ -197,7 +195,7 @@ module _ (l m : Link) (a : AlikeLinks l m) where
 -- ---- sessions
 
 -- a session with other hellos
-abbrev pub with_hellos : HelloState → HelloState → Session → Session
+abbrev pub with_hellos : Option ℕ → Option ℕ → Session → Session
 with_hellos g h s =
     record {
       head =
@@ -220,22 +218,22 @@ alike_is s t a =
     }
 
 -- a hello comes, or not
-greeted : (b : Bool) (g h : HelloState) (v w : ℕ) → AlikeHellos g h → SameBits v w
+greeted : (b : Bool) (g h : Option ℕ) (v w : ℕ) → AlikeHellos g h → SameBits v w
     → AlikeHellos (cond b (kept_hello g v) g) (cond b (kept_hello h w) h) × AlikeHellos (cond b g (kept_hello g v)) (cond b h (kept_hello h w))
-greeted true Awaited Awaited v w a e = (e, a)
-greeted true Awaited (Passed y) v w a e = absurd a
-greeted true (Passed x) Awaited v w a e = absurd a
-greeted true (Passed x) (Passed y) v w a e = (a, a)
-greeted false Awaited Awaited v w a e = (a, e)
-greeted false Awaited (Passed y) v w a e = absurd a
-greeted false (Passed x) Awaited v w a e = absurd a
-greeted false (Passed x) (Passed y) v w a e = (a, a)
+greeted true None None v w a e = (e, a)
+greeted true None (Some y) v w a e = absurd a
+greeted true (Some x) None v w a e = absurd a
+greeted true (Some x) (Some y) v w a e = (a, a)
+greeted false None None v w a e = (a, e)
+greeted false None (Some y) v w a e = absurd a
+greeted false (Some x) None v w a e = absurd a
+greeted false (Some x) (Some y) v w a e = (a, a)
 
 pub record AlikeJudged (x y : Judged) : Type 0 where
   pub session : AlikeSessions x.session y.session
   pub number : x.number ≡ y.number
 
-module _ (s : Session) (g h : HelloState) (ag : AlikeHellos s.head.guest g) (ah : AlikeHellos s.head.host h) where
+module _ (s : Session) (g h : Option ℕ) (ag : AlikeHellos s.head.guest g) (ah : AlikeHellos s.head.host h) where
   abbrev t : Session
   t = with_hellos g h s
 

@@ -2,13 +2,13 @@
 -- Bytes from a hello's first on are compared place by place (`Near`). So the header, the id and the version are the same, and of the words their
 -- count and the remainder of the first by 256; the wire checks and the judge take no more. A packet that is no hello is refused by its header.
 -- Assumes nothing.
+use Rattle.std.specs.Prelude.{Option, Some, None}
 use Prim.Native.Nat.{ℕ, zero, suc, ◌+◌, ◌-◌, ◌*◌, ◌%◌, ◌^◌, ◌≤◌, ◌<◌, min}
 use native.Mathlib.Nat.{le_trans}
 use native.Mathlib.Omega.{arith}
 use mathlib.Core.Path.{◌≡◌, refl, sym, ap, ap₂, subst, ◌∙◌}
 use mathlib.Core.Bool.{Bool, true, false, cond, not, ◌&&◌, ◌||◌, false≢true}
 use mathlib.Core.List.{List, [], ◌∷◌}
-use mathlib.Core.Option.{none, some}
 use lib.ListN.{length, get_or, take, drop, length-take, length-drop, get_or-eq_default}
 use lib.Seq.{get_or-take, get_or-drop}
 use lib.Dec.{eqb, leb, ltb}
@@ -17,7 +17,6 @@ use borrow.Table.Steps.{cases}
 use Rattle.octets.specs.Little.{le}
 use Rattle.header.specs.declared.Side.{Side}
 use Rattle.header.specs.declared.Side.TheVariants.{Guest, Host}
-use Rattle.header.specs.declared.HelloState.{HelloState}
 use Rattle.header.specs.declared.Link.{Link}
 use Rattle.header.specs.Link.{passed, own, shared_set, id_width}
 use Rattle.header.proofs.Widths.{narrow}
@@ -54,15 +53,15 @@ verdict_by s from n p o k =
     (record {
       session = (judged s (event_of from p)).session;
       number = (judged s (event_of from p)).number;
-      handed = cond (eqb (judged s (event_of from p)).number 0) o.handed none;
+      handed = cond (eqb (judged s (event_of from p)).number 0) o.handed None;
     })
-    (record { session = refused_as s k; number = n; handed = none })
+    (record { session = refused_as s k; number = n; handed = None })
 
-pub no-hand : (b : Bool) → AlikeHandedOut b none none
+pub no-hand : (b : Bool) → AlikeHandedOut b None None
 no-hand true = refl
 no-hand false = tt
 
-verdict-by : (b : Bool) (s : Session) (g h : HelloState) (ag : AlikeHellos s.head.guest g) (ah : AlikeHellos s.head.host h) (from : Side) (n : ℕ) (p q : Content) (o w : Told) (k : ℕ)
+verdict-by : (b : Bool) (s : Session) (g h : Option ℕ) (ag : AlikeHellos s.head.guest g) (ah : AlikeHellos s.head.host h) (from : Side) (n : ℕ) (p q : Content) (o w : Told) (k : ℕ)
     → (eqb n 0 ≡ true → AlikeJudged (judged s (event_of from p)) (judged (with_hellos g h s) (event_of from q)) × AlikeHandedOut b o.handed w.handed)
     → AlikeVerdicts b (verdict_by s from n p o k) (verdict_by (with_hellos g h s) from n q w k)
 verdict-by b s g h ag ah from n p q o w k e =
@@ -75,22 +74,22 @@ verdict-by b s g h ag ah from n p q o w k e =
     y : Judged
     y = judged (with_hellos g h s) (event_of from q)
 
-    out : (c : Bool) → AlikeHandedOut b o.handed w.handed → AlikeHandedOut b (cond c o.handed none) (cond c w.handed none)
+    out : (c : Bool) → AlikeHandedOut b o.handed w.handed → AlikeHandedOut b (cond c o.handed None) (cond c w.handed None)
     out true r = r
     out false r = no-hand b
 
     passes : AlikeJudged x y → AlikeHandedOut b o.handed w.handed
-        → AlikeVerdicts b (record { session = x.session; number = x.number; handed = cond (eqb x.number 0) o.handed none })
-        (record { session = y.session; number = y.number; handed = cond (eqb y.number 0) w.handed none })
+        → AlikeVerdicts b (record { session = x.session; number = x.number; handed = cond (eqb x.number 0) o.handed None })
+        (record { session = y.session; number = y.number; handed = cond (eqb y.number 0) w.handed None })
     passes j r =
         record {
           session = j.session;
           number = j.number;
-          handed = subst (λ (m : ℕ). AlikeHandedOut b (cond (eqb x.number 0) o.handed none) (cond (eqb m 0) w.handed none)) j.number (out (eqb x.number 0) r);
+          handed = subst (λ (m : ℕ). AlikeHandedOut b (cond (eqb x.number 0) o.handed None) (cond (eqb m 0) w.handed None)) j.number (out (eqb x.number 0) r);
         }
 
 -- of the same bytes
-pub verdict-same : (s : Session) (g h : HelloState) (ag : AlikeHellos s.head.guest g) (ah : AlikeHellos s.head.host h) (from : Side) (b : List ℕ)
+pub verdict-same : (s : Session) (g h : Option ℕ) (ag : AlikeHellos s.head.guest g) (ah : AlikeHellos s.head.host h) (from : Side) (b : List ℕ)
     → AlikeVerdicts true (verdict_of s from b) (verdict_of (with_hellos g h s) from b)
 unfolding verdict_of
 verdict-same s g h ag ah from b =
@@ -166,7 +165,7 @@ abbrev words_in : List ℕ → List ℕ
 words_in b = drop 64 (drop 12 b)
 
 abbrev hello_in : List ℕ → Content
-hello_in b = record { kind = 0; id = le 4 b 8; fields = some (cond (leb 64 (length (drop 12 b))) (numbers 1 64 (drop 12 b) 0) []) ∷ []; rest = words_in b }
+hello_in b = record { kind = 0; id = le 4 b 8; fields = Some (cond (leb 64 (length (drop 12 b))) (numbers 1 64 (drop 12 b) 0) []) ∷ []; rest = words_in b }
 
 decode-hello : (l : Link) (b : List ℕ) → kind_of b ≡ 0 → decode l b ≡ hello_in b
 unfolding decode content_at layout kinds header_size id_width
@@ -186,7 +185,7 @@ module _ (a b : List ℕ) (e : Near a b) where
       let c : length (drop 12 a) ≡ length (drop 12 b) = length-drop 12 a ∙ ap (λ (n : ℕ). n - 12) e.count ∙ sym (length-drop 12 b) in
       let v : numbers 1 64 (drop 12 a) 0 ≡ numbers 1 64 (drop 12 b) 0 =
       numbers-near (drop 12 a) (drop 12 b) 64 0 (λ i l. get_or-drop 12 a i 0 ∙ e.front (12 + i) (omega arith) ∙ sym (get_or-drop 12 b i 0)) in
-      λ i. some (cond (leb 64 (c i)) (v i) []) ∷ []
+      λ i. Some (cond (leb 64 (c i)) (v i) []) ∷ []
 
   words_count : length (words_in a) ≡ length (words_in b)
   words_count = counted a ∙ ap (λ (n : ℕ). n - 12 - 64) e.count ∙ sym (counted b)
@@ -226,7 +225,7 @@ unfolding judged next_for applied number_for match_of event_of meaning_of meanin
 judged-hello s Guest b = refl
 judged-hello s Host b = refl
 
-module _ (s : Session) (g h : HelloState) (ag : AlikeHellos s.head.guest g) (ah : AlikeHellos s.head.host h) (from : Side) (a b : List ℕ) (e : Near a b) (first : begun from s ≡ false) where
+module _ (s : Session) (g h : Option ℕ) (ag : AlikeHellos s.head.guest g) (ah : AlikeHellos s.head.host h) (from : Side) (a b : List ℕ) (e : Near a b) (first : begun from s ≡ false) where
   abbrev fore : Link
   fore = link_of from s
 

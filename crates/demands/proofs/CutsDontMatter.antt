@@ -2,11 +2,11 @@
 -- Both lists are held against `play`, which knows no pieces (`plays`): each call ends no packet, and what it took stands behind what was held, or it
 -- ends one, and its bytes give what `first_packet` gives, whatever follows them.
 -- Assumes nothing.
+use Rattle.std.specs.Prelude.{None}
 use Prim.Native.Nat.{ℕ, ◌≤◌, ◌+◌, ◌-◌}
 use native.Mathlib.Omega.{arith}
 use mathlib.Core.Bool.{Bool, true, false, cond, true≢false}
 use mathlib.Core.List.{List, [], ◌∷◌, ◌++◌, append_assoc, append-nil}
-use mathlib.Core.Option.{none}
 use mathlib.Core.Path.{◌≡◌, refl, sym, ap, subst, ◌∙◌}
 use mathlib.Core.Logic.{◌⊎◌, inl, inr}
 use lib.Dec.{eqb}
@@ -110,8 +110,8 @@ unfolding verdict_of
 verdict-as d n s from b =
     let j = judged-as d n s (event_of from (decode (link_of from s) b)) in
     cases (eqb (read_number (link_of from s) b) 0)
-    (λ t. rw t (ap (λ (q : Judged). record { session = q.session; number = q.number; handed = cond (eqb q.number 0) (read_of (link_of from s) b).handed none }) j))
-    (λ t. rw t (ap (λ (u : Session). record { session = u; number = read_number (link_of from s) b; handed = none }) (refused_as_lem d n s (kind_of b))))
+    (λ t. rw t (ap (λ (q : Judged). record { session = q.session; number = q.number; handed = cond (eqb q.number 0) (read_of (link_of from s) b).handed None }) j))
+    (λ t. rw t (ap (λ (u : Session). record { session = u; number = read_number (link_of from s) b; handed = None }) (refused_as_lem d n s (kind_of b))))
 
 -- so of a session with nothing held the verdict is the same, but for what is held
 verdict-bare : (s : Session) (from : Side) (b : List ℕ)
@@ -238,7 +238,7 @@ module _ (x : Both) (d : Side) (piece : List ℕ) (n : ℕ) where
             let a = bad-again l all r n e in
             rw (← f)
             (ap (first_packet_as d (unheld s) (take (head_size l all) all ++ r)) a.0
-            ∙ (λ i. record { ended = record { from = d; number = n; handed = none } ∷ []; session = sym (bare-stopped d s) i; size = (a.1 ∙ sym c) i }));
+            ∙ (λ i. record { ended = record { from = d; number = n; handed = None } ∷ []; session = sym (bare-stopped d s) i; size = (a.1 ∙ sym c) i }));
         held = held-zero x d (stopped_now (held_as d 0 s)) (completed (x.hold d) (held_of d s) piece (head_size l all)) refl;
       }
 
@@ -324,14 +324,14 @@ held_none d s hold piece =
     (λ t. rw t (goes (cut_at (link_of d s) (held_bytes d s hold ++ piece))))
     (λ t. rw t (λ h. absurd (true≢false (sym h ∙ barred-ends-none d s hold (λ z. true≢false (sym (ap (λ (m : ℕ). eqb m 0) z) ∙ t))))))
   where
-    none : (d : Side) (t : Session) → t.head.held ≡ (held_as d 0 s).head.held → held_of d t ≡ 0
-    none Guest t q = λ i. (q i).guest
-    none Host t q = λ i. (q i).host
+    None : (d : Side) (t : Session) → t.head.held ≡ (held_as d 0 s).head.held → held_of d t ≡ 0
+    None Guest t q = λ i. (q i).guest
+    None Host t q = λ i. (q i).host
 
     goes : (c : Cut) → ends_packet (by_cut d s hold piece c).number ≡ true → held_of d (by_cut d s hold piece c).session ≡ 0
     goes more h = absurd (true≢false (sym h))
-    goes (bad n) h = none d (stopped_now (held_as d 0 s)) refl
-    goes (whole n) h = none d (verdict_of (held_as d 0 s) d (take n (held_bytes d s hold ++ piece))).session (verdict-held (held_as d 0 s) d (take n (held_bytes d s hold ++ piece)))
+    goes (bad n) h = None d (stopped_now (held_as d 0 s)) refl
+    goes (whole n) h = None d (verdict_of (held_as d 0 s) d (take n (held_bytes d s hold ++ piece))).session (verdict-held (held_as d 0 s) d (take n (held_bytes d s hold ++ piece)))
 
 -- ---- a run is what `play` makes of its bytes and its order
 

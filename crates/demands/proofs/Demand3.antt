@@ -2,11 +2,11 @@
 -- The general theorem (`wire/proofs/Demand3.antt`) asks laws of one call; here the reader and the writer are shown to have them. That the calls of
 -- the code are such calls (`read-of`, `other-of`, `call-of`) follows from their contracts.
 -- Assumes nothing.
+use Rattle.std.specs.Prelude.{None}
 use Prim.Native.Nat.{ℕ, ◌+◌, ◌-◌}
 use native.Mathlib.Omega.{arith}
 use mathlib.Core.Bool.{Bool, true, false, cond, true≢false, and-false}
 use mathlib.Core.List.{List, [], ◌∷◌, ◌++◌}
-use mathlib.Core.Option.{none}
 use mathlib.Core.Path.{◌≡◌, refl, sym, ap, subst, ◌∙◌}
 use mathlib.Core.Logic.{inl, inr}
 use lib.Dec.{eqb}
@@ -146,14 +146,14 @@ judged_of s from b =
     record {
       session = (judged s (event_of from (decode (link_of from s) b))).session;
       number = (judged s (event_of from (decode (link_of from s) b))).number;
-      handed = cond (eqb (judged s (event_of from (decode (link_of from s) b))).number 0) (read_of (link_of from s) b).handed none;
+      handed = cond (eqb (judged s (event_of from (decode (link_of from s) b))).number 0) (read_of (link_of from s) b).handed None;
     }
 
 pub verdict-open : (s : Session) (from : Side) (b : List ℕ) → read_number (link_of from s) b ≡ 0 → verdict_of s from b ≡ judged_of s from b
 unfolding verdict_of
 verdict-open s from b z = rw z refl
 
-pub handed-when : (b : Bool) (l : Link) (bytes : List ℕ) (q : Content) → read_number l bytes ≡ 0 → decode l bytes ≡ q → contents (cond b (read_of l bytes).handed none) ≡ cond b (q ∷ []) []
+pub handed-when : (b : Bool) (l : Link) (bytes : List ℕ) (q : Content) → read_number l bytes ≡ 0 → decode l bytes ≡ q → contents (cond b (read_of l bytes).handed None) ≡ cond b (q ∷ []) []
 unfolding read_of
 handed-when true l bytes q z e = rw z (ap (λ (p : Content). p ∷ []) e)
 handed-when false l bytes q z e = refl

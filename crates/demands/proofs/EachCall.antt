@@ -2,11 +2,11 @@
 -- The premises of a sentence on a number decide the definition's tests. The other two go by the ways of a call, barred or by its cut, with the
 -- numbers of each (`Numbers.antt`). A hello needs nothing shared, so 23, 24 or 13 refuses it (`hello-number`).
 -- Assumes nothing.
+use Rattle.std.specs.Prelude.{Option, None}
 use Prim.Native.Nat.{ℕ, ◌≤◌, ◌+◌, ◌-◌}
 use native.Mathlib.Omega.{arith}
 use mathlib.Core.Bool.{Bool, true, false, cond, not, ◌&&◌, ◌||◌, false≢true, true≢false, and-false}
 use mathlib.Core.List.{List, [], ◌∷◌, ◌++◌}
-use mathlib.Core.Option.{Option, none}
 use mathlib.Core.Path.{◌≡◌, refl, sym, ap, subst, ◌∙◌}
 use lib.Dec.{eqb, ltb}
 use lib.ListN.{drop, length, take, length-append, take-append-drop}
@@ -233,7 +233,7 @@ leaves from s hold piece =
     goes r (bad n) e =
         ended from s hold piece (head_size (link_of from s) (held_bytes from s hold ++ piece))
         (header-here (link_of from s) hold piece (held_of from s) r.room (held-few from s r.fit) r.begun n e)
-        (stopped_now (held_as from 0 s)) n none (header-ends (link_of from s) (held_bytes from s hold ++ piece) n e)
+        (stopped_now (held_as from 0 s)) n None (header-ends (link_of from s) (held_bytes from s hold ++ piece) n e)
         (λ _. refl) (λ h. absurd (true≢false (sym (header-number (link_of from s) (held_bytes from s hold ++ piece) n e) ∙ h)))
     goes r (whole n) e =
         ended from s hold piece n (whole_here (link_of from s) hold piece (held_of from s) r.room (held-few from s r.fit) r.begun n e)

@@ -3,6 +3,7 @@
 -- what the other's held bytes are (`other-unfinished`): but where the other's own has not passed, nothing is shared before or after; where it has
 -- and this one had not, nothing is held there; and where both had, no hello changes.
 -- Assumes nothing.
+use Rattle.std.specs.Prelude.{Option, Some, None}
 use Prim.Native.Nat.{ℕ, ◌≤◌, ◌+◌}
 use native.Mathlib.Omega.{arith}
 use mathlib.Core.Bool.{Bool, true, false, cond, not, ◌&&◌, false≢true, true≢false, and-false}
@@ -19,8 +20,6 @@ use Rattle.octets.proofs.Integers.{take-sets}
 use Rattle.header.specs.declared.Side.{Side}
 use Rattle.header.specs.declared.Side.TheVariants.{Guest, Host}
 use Rattle.header.specs.Link.{shared_set, id_width, passed, offered, own, opposite}
-use Rattle.header.specs.declared.HelloState.{HelloState}
-use Rattle.header.specs.declared.HelloState.TheVariants.{Awaited, Passed}
 use Rattle.header.specs.declared.Link.{Link}
 use Rattle.header.specs.Header.{kind_of, length_of, header_size, header_number}
 use Rattle.device.specs.Device.{start_head, control_rows}
@@ -60,7 +59,7 @@ use Rattle.demands.proofs.CutsDontMatter.{verdict-ends}
 use Rattle.demands.proofs.EachCall.{header-ends}
 use Rattle.demands.proofs.LateReplies.{by_call, read_is}
 
-abbrev pub hello_by : Side → Session → HelloState
+abbrev pub hello_by : Side → Session → Option ℕ
 hello_by Guest s = s.head.guest
 hello_by Host s = s.head.host
 
@@ -72,19 +71,19 @@ pub record Left (x : Both) : Type 0 where
 
 -- ---- what a header is, where the sender's hello has not passed
 
-is-awaited : (h : HelloState) → passed h ≡ false → h ≡ Awaited
-is-awaited Awaited e = refl
-is-awaited (Passed w) e = absurd (true≢false e)
+is-awaited : (h : Option ℕ) → passed h ≡ false → h ≡ None
+is-awaited None e = refl
+is-awaited (Some w) e = absurd (true≢false e)
 
 cut_by : (l m : Link) (b : List ℕ) → ((k : ℕ) → id_width l k ≡ id_width m k) → ((k n : ℕ) → header_number l k n ≡ header_number m k n) → cut_at l b ≡ cut_at m b
 unfolding header_size
 cut_by l m b p q = λ i. cut_of (λ c. 8 + p (kind_of c) i) (λ c. q (kind_of c) (length_of c) i) length_of b
 
 -- nothing is shared then, whatever the other's hello is
-shared-none : (e : Side) (s : Session) → hello_by e s ≡ Awaited → shared_set (link_of e s) ≡ 0
+shared-none : (e : Side) (s : Session) → hello_by e s ≡ None → shared_set (link_of e s) ≡ 0
 unfolding shared_set
-shared-none Guest s q = ap (λ (h : HelloState). bit_and (bit_and (offered h) (offered s.head.host)) 255) q ∙ ap (λ (n : ℕ). bit_and n 255) (and_zero_l (offered s.head.host)) ∙ and_zero_l 255
-shared-none Host s q = ap (λ (h : HelloState). bit_and (bit_and (offered s.head.guest) (offered h)) 255) q ∙ ap (λ (n : ℕ). bit_and n 255) (and_zero_r (offered s.head.guest)) ∙ and_zero_l 255
+shared-none Guest s q = ap (λ (h : Option ℕ). bit_and (bit_and (offered h) (offered s.head.host)) 255) q ∙ ap (λ (n : ℕ). bit_and n 255) (and_zero_l (offered s.head.host)) ∙ and_zero_l 255
+shared-none Host s q = ap (λ (h : Option ℕ). bit_and (bit_and (offered s.head.guest) (offered h)) 255) q ∙ ap (λ (n : ℕ). bit_and n 255) (and_zero_r (offered s.head.guest)) ∙ and_zero_l 255
 
 width-none : (l : Link) → shared_set l ≡ 0 → (k : ℕ) → id_width l k ≡ cond (not (eqb k 0) && has_bit 0 5) 8 4
 unfolding id_width
@@ -92,13 +91,13 @@ width-none l e k = ap (λ (n : ℕ). cond (not (eqb k 0) && has_bit n 5) 8 4) e
 
 number-own : (l m : Link) → own l ≡ own m → (k n : ℕ) → header_number l k n ≡ header_number m k n
 unfolding header_number
-number-own l m e k n = ap (λ (h : HelloState). cond (ltb 32768 n) 10 (cond (passed h) (cond (eqb k 0) 12 0) (cond (eqb k 0) 0 11))) e
+number-own l m e k n = ap (λ (h : Option ℕ). cond (ltb 32768 n) 10 (cond (passed h) (cond (eqb k 0) 12 0) (cond (eqb k 0) 0 11))) e
 
 own_is : (e : Side) (s : Session) → own (link_of e s) ≡ hello_by e s
 own_is Guest s = refl
 own_is Host s = refl
 
-cut-awaited : (e : Side) (s t : Session) (b : List ℕ) → hello_by e s ≡ Awaited → hello_by e t ≡ hello_by e s → cut_at (link_of e t) b ≡ cut_at (link_of e s) b
+cut-awaited : (e : Side) (s t : Session) (b : List ℕ) → hello_by e s ≡ None → hello_by e t ≡ hello_by e s → cut_at (link_of e t) b ≡ cut_at (link_of e s) b
 cut-awaited e s t b a q =
     cut_by (link_of e t) (link_of e s) b
     (λ k. width-none (link_of e t) (shared-none e t (q ∙ a)) k ∙ sym (width-none (link_of e s) (shared-none e s a) k))

@@ -3,12 +3,12 @@
 -- A call is taken through its ways (`stepped`): barred, more wanted, a refused header, a whole packet, whose verdict is alike. Lists go by induction;
 -- the other direction's hello and count are kept by each call (`other-kept`).
 -- Assumes nothing.
+use Rattle.std.specs.Prelude.{Option, None}
 use Prim.Native.Nat.{ℕ, ◌+◌, ◌-◌, ◌≤◌}
 use native.Mathlib.Omega.{arith}
 use mathlib.Core.Path.{◌≡◌, refl, sym, ap, subst, ◌∙◌}
 use mathlib.Core.Bool.{Bool, true, false, cond, not, ◌||◌}
 use mathlib.Core.List.{List, [], ◌∷◌, ◌++◌}
-use mathlib.Core.Option.{none}
 use lib.ListN.{length, take}
 use lib.Seq.{sets, length-sets}
 use lib.Dec.{eqb, ltb}
@@ -17,7 +17,6 @@ use borrow.Table.Steps.{cases}
 use Rattle.octets.proofs.Integers.{take-sets}
 use Rattle.header.specs.declared.Side.{Side}
 use Rattle.header.specs.declared.Side.TheVariants.{Guest, Host}
-use Rattle.header.specs.declared.HelloState.{HelloState}
 use Rattle.header.specs.declared.Link.{Link}
 use Rattle.header.specs.Link.{passed, own, opposite}
 use Rattle.header.specs.Header.{kind_of, length_of}
@@ -61,7 +60,7 @@ record Stepped (b : Bool) (from : Side) (hold keep piece part : List ℕ) (o p :
   held : AlikeAtHand (begun from o.session) (held_bytes from o.session o.hold) (held_bytes from p.session p.hold)
   buffer : hold ≡ keep → piece ≡ part → o.hold ≡ p.hold
 
-module _ (b : Bool) (s : Session) (g h : HelloState) (ag : AlikeHellos s.head.guest g) (ah : AlikeHellos s.head.host h) (from : Side) (hold keep piece part : List ℕ)
+module _ (b : Bool) (s : Session) (g h : Option ℕ) (ag : AlikeHellos s.head.guest g) (ah : AlikeHellos s.head.host h) (from : Side) (hold keep piece part : List ℕ)
     (room : length hold ≡ length keep) (count : length piece ≡ length part) where
   abbrev twin : Session
   twin = with_hellos g h s
@@ -159,8 +158,8 @@ module _ (b : Bool) (s : Session) (g h : HelloState) (ag : AlikeHellos s.head.gu
         let f = more-few l hold piece (held_of from s) r.room (held-few from s r.fit) e in
         kept_same (omega (arith, f, r.room)) all
     by-cut z (refused n) e =
-        ended (head_size l (held_bytes from s hold ++ piece)) (head_size m (held_bytes from twin keep ++ part)) (record { session = stopped_now (held_as from 0 s); number = n; handed = none })
-        (record { session = stopped_now (held_as from 0 twin); number = n; handed = none })
+        ended (head_size l (held_bytes from s hold ++ piece)) (head_size m (held_bytes from twin keep ++ part)) (record { session = stopped_now (held_as from 0 s); number = n; handed = None })
+        (record { session = stopped_now (held_as from 0 twin); number = n; handed = None })
         (size-at l m (links s g h ag ah from) _ _ starts)
         (record {
           session = record { head = record { guest = ag; host = ah; stopped = refl; held = refl; present = refl; introduction = refl; owed = refl }; rows = refl; requests = refl; watch = refl };
@@ -184,7 +183,7 @@ module _ (b : Bool) (s : Session) (g h : HelloState) (ag : AlikeHellos s.head.gu
 -- ---- sessions that are alike
 
 -- a whole packet, by its first bytes that are at hand
-verdict-at : (b : Bool) (s : Session) (g h : HelloState) (ag : AlikeHellos s.head.guest g) (ah : AlikeHellos s.head.host h) (from : Side) (x y : List ℕ) → begun from s ≡ b
+verdict-at : (b : Bool) (s : Session) (g h : Option ℕ) (ag : AlikeHellos s.head.guest g) (ah : AlikeHellos s.head.host h) (from : Side) (x y : List ℕ) → begun from s ≡ b
     → AlikeAtHand b x y → (n : ℕ) → AlikeVerdicts b (verdict_of s from (take n x)) (verdict_of (with_hellos g h s) from (take n y))
 verdict-at true s g h ag ah from x y f e n =
     subst (λ (z : List ℕ). AlikeVerdicts true (verdict_of s from (take n x)) (verdict_of (with_hellos g h s) from (take n z))) e (verdict-same s g h ag ah from (take n x))
@@ -201,10 +200,10 @@ step-at from s t a hold keep piece part room count =
     (λ x y. stepped (begun from s) s g h a.head.guest a.head.host from hold keep piece part room count x y
     (verdict-at (begun from s) (held_as from 0 s) g h a.head.guest a.head.host from _ _ refl y))
   where
-    g : HelloState
+    g : Option ℕ
     g = t.head.guest
 
-    h : HelloState
+    h : Option ℕ
     h = t.head.host
 
 held-alike : (d : Side) (s t : Session) → AlikeSessions s t → held_of d s ≡ held_of d t
@@ -216,10 +215,10 @@ same-reader from s t hold piece a =
     let r = subst (λ (u : Session). Stepped true from hold hold piece piece (offer_of from s hold piece) (offer_of from u hold piece)) (alike_is s t a) twins in
     record { answers = r.answers; hold = r.buffer refl refl }
   where
-    g : HelloState
+    g : Option ℕ
     g = t.head.guest
 
-    h : HelloState
+    h : Option ℕ
     h = t.head.host
 
     bytes : held_bytes from s hold ≡ held_bytes from (with_hellos g h s) hold

@@ -4,6 +4,7 @@
 -- packet, the judge keeps these (`claims/specs/KeptByPacket.antt`). A count of at most 32,783 is all that is owed, since neither end waits.
 -- A header is decided by its own bytes (`header-front`), so that a whole packet gets the number of what it says (`whole-number`).
 -- Assumes nothing.
+use Rattle.std.specs.Prelude.{Option}
 use Prim.Native.Nat.{ℕ, ◌≤◌, ◌+◌}
 use native.Mathlib.Omega.{arith}
 use mathlib.Core.Bool.{Bool, true, false, cond, true≢false}
@@ -17,7 +18,6 @@ use borrow.Table.Steps.{cases}
 use Rattle.header.specs.declared.Side.{Side}
 use Rattle.header.specs.declared.Side.TheVariants.{Guest, Host}
 use Rattle.header.specs.Link.{passed, opposite}
-use Rattle.header.specs.declared.HelloState.{HelloState}
 use Rattle.header.specs.declared.Link.{Link}
 use Rattle.header.specs.Header.{kind_of, length_of}
 use Rattle.kinds.specs.Content.{Content}
@@ -107,7 +107,7 @@ keeps_on : (d : Side) (s t u : Session) → Keeps d s t → Keeps d t u → Keep
 keeps_on d s t u a b = record { established = b.established; guest = b.guest ∙ a.guest; host = b.host ∙ a.host; held = b.held ∙ a.held }
 
 -- with both hellos passed, 43 asks of a held count only that it is at most 32,783
-count-fit : (own other : HelloState) (n : ℕ) → passed other ≡ true → n ≤ 32783 → FitCount own other n
+count-fit : (own other : Option ℕ) (n : ℕ) → passed other ≡ true → n ≤ 32783 → FitCount own other n
 count-fit own other n p h = record { few = h; none-waiting = λ a b. absurd (true≢false (sym p ∙ b)) }
 
 -- a call that leaves so many bytes held in its direction

@@ -2,11 +2,12 @@
 -- At 0 a packet passes (`demand-2`), what is handed out is the reading of its bytes (`is-handed`), and `leaves` says that these lie where the
 -- answer tells. At any other number each way of a call hands nothing out. What follows the fields is the same part whatever is shared.
 -- Assumes nothing.
+use Rattle.std.specs.Prelude.{None, Some}
 use Prim.Native.Nat.{ℕ}
 use native.Mathlib.Omega.{arith}
 use mathlib.Core.Bool.{cond}
 use mathlib.Core.List.{List, [], ◌++◌}
-use mathlib.Core.Option.{none, some-injective, none-ne-some}
+use Rattle.std.proofs.lemmas.Option.{none-some, same_Some}
 use mathlib.Core.Path.{◌≡◌, refl, sym, ap, subst, ◌∙◌}
 use lib.Dec.{eqb}
 use lib.ListN.{drop, length, take, length-drop}
@@ -35,8 +36,7 @@ use Rattle.session.specs.Session.{link_of}
 use Rattle.session.specs.Step.{judged}
 use Rattle.gate.specs.Verdict.{held_as, verdict_of, handed_as}
 use Rattle.gate.specs.Offer.{Outcome, held_bytes, barred, by_cut, offer_of, body_in, data_in}
-use Rattle.gate.specs.declared.Handed.{Handed}
-use Rattle.gate.specs.declared.Handed.TheVariants.{NoPacket, OnePacket}
+use Rattle.gate.specs.Verdict.{Handed}
 use Rattle.demands.specs.Demand2.{packet_at, Passes}
 use Rattle.demands.specs.CallLists.{ends_packet}
 use Rattle.demands.specs.Lending.{LendsBody, BodyLent, NothingLent, DataLent, AlwaysRowsLent}
@@ -69,14 +69,14 @@ module _ (from : Side) (s : Session) (hold piece : List ℕ) (h : Passes from s 
   is-handed =
       let q = judged-call from s hold piece h.ready h.size h.whole h.form in
       let z : (judged (held_as from 0 s) (event_of from (packet_at from s hold piece h.size))).number ≡ 0 = sym (ap (λ (o : Outcome). o.number) q) ∙ (demand-2 from s hold piece).1 h in
-      ap (λ (o : Outcome). o.handed) q ∙ ap (λ (m : ℕ). cond (eqb m 0) (read_of l b).handed none) z
+      ap (λ (o : Outcome). o.handed) q ∙ ap (λ (m : ℕ). cond (eqb m 0) (read_of l b).handed None) z
 
   -- the reading hands a packet on, so that the code's is one too, with the reading's header and content
   lends_by : (bytes : List ℕ) → bytes ≡ b → (c : Handed) → handed_as l bytes c ≡ (read_of l b).handed → LendsBody from s hold piece h.size c bytes
   unfolding read_of
-  lends_by bytes y NoPacket e = absurd (none-ne-some _ (rw read-zero at e))
-  lends_by bytes y (OnePacket k p) e =
-      let q = some-injective _ _ (rw read-zero at e) in
+  lends_by bytes y None e = absurd (none-some _ (rw read-zero at e))
+  lends_by bytes y (Some (k, p)) e =
+      let q = same_Some _ _ (rw read-zero at e) in
       let d : k ≡ header_of l b = ap (λ (x : PacketTold). x.header) q in
       let body : drop k.size bytes ≡ drop (head_size l all) b = ap (λ (x : Header). drop x.size bytes) d ∙ ap (λ (m : ℕ). drop m bytes) same-header.size ∙ ap (drop (head_size l all)) y in
       let c : length b ≡ h.size = length-take-le h.size all w.there in
@@ -104,15 +104,15 @@ body-lent from s hold piece after r e z =
 
 -- ---- nothing else is lent
 
-verdict-none : (s : Session) (from : Side) (b : List ℕ) → ((verdict_of s from b).number ≡ 0 → ⊥) → (verdict_of s from b).handed ≡ none
+verdict-none : (s : Session) (from : Side) (b : List ℕ) → ((verdict_of s from b).number ≡ 0 → ⊥) → (verdict_of s from b).handed ≡ None
 unfolding verdict_of
 verdict-none s from b = cases (eqb (read_number (link_of from s) b) 0) (λ t. rw t (λ z. rw (ne_eqb (judged s (event_of from (decode (link_of from s) b))).number 0 z) refl)) (λ t. rw t (λ z. refl))
 
-none-handed : (from : Side) (s : Session) (hold piece : List ℕ) → ((offer_of from s hold piece).number ≡ 0 → ⊥) → (offer_of from s hold piece).handed ≡ none
+none-handed : (from : Side) (s : Session) (hold piece : List ℕ) → ((offer_of from s hold piece).number ≡ 0 → ⊥) → (offer_of from s hold piece).handed ≡ None
 unfolding offer_of
 none-handed from s hold piece = cases (eqb (barred from s hold) 0) (λ t. rw t (by-cut (cut_at (link_of from s) (held_bytes from s hold ++ piece)))) (λ t. rw t (λ z. refl))
   where
-    by-cut : (c : Cut) → ((by_cut from s hold piece c).number ≡ 0 → ⊥) → (by_cut from s hold piece c).handed ≡ none
+    by-cut : (c : Cut) → ((by_cut from s hold piece c).number ≡ 0 → ⊥) → (by_cut from s hold piece c).handed ≡ None
     by-cut more z = refl
     by-cut (bad n) z = refl
     by-cut (whole n) z = verdict-none (held_as from 0 s) from (take n (held_bytes from s hold ++ piece)) z
@@ -121,9 +121,9 @@ pub nothing_lent : NothingLent
 nothing_lent from s hold piece after r e z bytes =
     go r.answer.handed (ap (λ (x : Outcome). x.handed) e ∙ none-handed from s hold piece (λ o. z (ap (λ (x : Outcome). x.number) e ∙ o)))
   where
-    go : (c : Handed) → handed_as (link_of from s) (bytes_at r.answer.location r.answer.size piece after) c ≡ none → (body_in c bytes ≡ []) × (data_in c bytes ≡ [])
-    go NoPacket q = (refl, refl)
-    go (OnePacket h p) q = absurd (none-ne-some _ (sym q))
+    go : (c : Handed) → handed_as (link_of from s) (bytes_at r.answer.location r.answer.size piece after) c ≡ None → (body_in c bytes ≡ []) × (data_in c bytes ≡ [])
+    go None q = (refl, refl)
+    go (Some (h, p)) q = absurd (none-some _ (sym q))
 
 -- ---- the data
 

@@ -3,10 +3,10 @@
 -- A definition is a nest of tests, and for each outcome of its tests the number is one of the list. The session's is the first of a list of
 -- checks, by induction over that.
 -- Assumes nothing.
+use Rattle.std.specs.Prelude.{Option, Some, None}
 use Prim.Native.Nat.{ℕ}
 use mathlib.Core.Bool.{Bool, true, false, cond, not, ◌||◌}
 use mathlib.Core.List.{List, [], ◌∷◌}
-use mathlib.Core.Option.{Option, none, some}
 use mathlib.Core.Path.{sym, subst}
 use lib.Dec.{eqb, ltb}
 use lib.ListN.{length}
@@ -58,8 +58,8 @@ module _ (P : ℕ → Type 0) where
       order false false false false false = p.0
 
       known : (o : Option Kind) → P (by_kind l o q)
-      known none = p.1.1.0
-      known (some k) =
+      known None = p.1.1.0
+      known (Some k) =
           order (not (sends k.sender l.sender)) (not (shared (shared_set l) k.needs) || surplus (shared_set l) k.fields q.fields || wide_id l q)
           (not (size_ok l.sender k q)) (not (is_none (bad l.sender (shared_set l) k q))) (streams_alone k.tail q.rest)
 

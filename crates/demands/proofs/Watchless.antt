@@ -2,11 +2,11 @@
 -- Of the other session the watch alone is another one (`with_watch`), and no check reads it: each way of a call computes to the same outcome but for the
 -- watch (`offer-same`), and a write to the same output (`writes-same`). Lists go by induction.
 -- Assumes nothing.
+use Rattle.std.specs.Prelude.{None}
 use Prim.Native.Nat.{ℕ}
 use mathlib.Core.Path.{◌≡◌, refl, sym, ap, subst}
 use mathlib.Core.Bool.{cond}
 use mathlib.Core.List.{List, [], ◌∷◌, ◌++◌}
-use mathlib.Core.Option.{none}
 use lib.ListN.{take}
 use lib.Dec.{eqb}
 use borrow.Table.Steps.{cases}
@@ -57,7 +57,7 @@ module _ (from : Side) (s : Session) (w : Watch) where
   verdict-same b =
       let j = judged-same (event_of from (decode (link_of from s) b)) in
       cases (eqb (read_number (link_of from s) b) 0)
-      (λ z. rw z (ap (λ (q : Judged). record { session = q.session; number = q.number; handed = cond (eqb q.number 0) (read_of (link_of from s) b).handed none }) j))
+      (λ z. rw z (ap (λ (q : Judged). record { session = q.session; number = q.number; handed = cond (eqb q.number 0) (read_of (link_of from s) b).handed None }) j))
       (λ z. rw z (cases (eqb (kind_of b) 0) (λ y. rw y) (λ y. rw y)))
 
 -- the second is the first but for the watch that it leaves

@@ -1,10 +1,11 @@
 -- The writer's 22 and 24 exactly: each is `writer-number-is` with the check that fails, and those before it.
 -- Assumes nothing.
+use Rattle.std.specs.Prelude.{Option, Some, None}
 use Prim.Native.Nat.{ℕ, zero, suc, ◌+◌, ◌*◌, ◌/◌, ◌%◌, ◌^◌, ◌≤◌, ◌<◌}
 use native.Mathlib.Omega.{arith}
 use mathlib.Core.Bool.{Bool, true, false, cond, ◌||◌, true≢false, false≢true}
 use mathlib.Core.List.{List, [], ◌∷◌}
-use mathlib.Core.Option.{Option, none, some, some-ne-none, none-ne-some, some-injective}
+use Rattle.std.proofs.lemmas.Option.{none-some, same_Some}
 use mathlib.Core.Path.{◌≡◌, refl, sym, ap, subst, ◌∙◌}
 use lib.ListN.{length, get_or, drop, length-drop}
 use lib.Dec.{eqb, leb, lit<, lit≤}
@@ -22,13 +23,11 @@ use Rattle.kinds.specs.Number.{bad, kind_number, wire_number}
 use Rattle.kinds.specs.Formed.{Line, field_at, There, Sends, Shared, Sharing, Onward, count_with, data_count, Sized}
 use Rattle.kinds.proofs.Formed.{id-fits, wire-number-is}
 use Rattle.kinds.proofs.FieldBytes.{length-numbers}
-use Rattle.packet.specs.declared.Optional16.{Optional16}
-use Rattle.packet.specs.declared.Optional16.TheVariants.{Absent, Present}
 use Rattle.packet.specs.declared.Connect.{Connect as ConnectFields}
 use Rattle.packet.specs.declared.EndpointTable.{EndpointTable as EndpointTableFields}
 use Rattle.packet.specs.declared.Bulk.{Bulk as BulkFields}
 use Rattle.packet.specs.declared.Packet.TheVariants.{Connect, EndpointTable, Bulk}
-use Rattle.packet.specs.Packet.{in_part, optional, high, columns_of, single, rows_in, content_of}
+use Rattle.packet.specs.Packet.{in_part, high, columns_of, single, rows_in, content_of}
 use Rattle.packet.specs.Rows.{table_size}
 use Rattle.packet.proofs.Rows.{table-size}
 use Rattle.session.specs.declared.Session.{Session}
@@ -76,22 +75,22 @@ module _ (from : Side) (s : Session) (p : Content) (space : ℕ) (r : Reaches fr
   is-24 k h a b c i n w z = (writer-number-is from s p space r).rule-broken.1 (k, h, a, b, c, λ q. let t = q.there i n w in z t.0 t.1)
 
   -- without its high part a bulk count is the low one
-  high_zero : (vs : List Value) → get_or vs length_high none ≡ none → named "length high" (kind_at 29).fields vs ≡ 0
+  high_zero : (vs : List Value) → get_or vs length_high None ≡ None → named "length high" (kind_at 29).fields vs ≡ 0
   unfolding kinds
   high_zero [] e = refl
   high_zero (a ∷ []) e = refl
   high_zero (a ∷ b ∷ []) e = refl
   high_zero (a ∷ b ∷ c ∷ []) e = refl
   high_zero (a ∷ b ∷ c ∷ d ∷ []) e = refl
-  high_zero (a ∷ b ∷ c ∷ d ∷ none ∷ vs) e = refl
-  high_zero (a ∷ b ∷ c ∷ d ∷ some xs ∷ vs) e = absurd (some-ne-none _ e)
+  high_zero (a ∷ b ∷ c ∷ d ∷ None ∷ vs) e = refl
+  high_zero (a ∷ b ∷ c ∷ d ∷ Some xs ∷ vs) e = absurd (none-some _ (sym e))
 
   has-high : named "length" (kind_at 29).fields p.fields ≤ 65535 → 65535 < count_with true (named "length" (kind_at 29).fields p.fields) (named "length high" (kind_at 29).fields p.fields) → (xs : List ℕ) × There p length_high xs
-  has-high u v = go (get_or p.fields length_high none) refl
+  has-high u v = go (get_or p.fields length_high None) refl
     where
-      go : (o : Value) → get_or p.fields length_high none ≡ o → (xs : List ℕ) × There p length_high xs
-      go none e = let z : named "length high" (kind_at 29).fields p.fields ≡ 0 = high_zero p.fields e in absurd (omega (arith, u, v, z))
-      go (some xs) e = (xs, e)
+      go : (o : Value) → get_or p.fields length_high None ≡ o → (xs : List ℕ) × There p length_high xs
+      go None e = let z : named "length high" (kind_at 29).fields p.fields ≡ 0 = high_zero p.fields e in absurd (omega (arith, u, v, z))
+      go (Some xs) e = (xs, e)
 
   left_out : LeftOut from s p (write_by from s p space)
   unfolding kinds
@@ -124,7 +123,7 @@ missing-is-24 = missing
 
 -- its wire checks up to 23 hold, and with no version where bit 1 is shared a field rule is broken, whatever the speed is
 connect-24 : (link : Link) (id speed class subclass protocol vendor product : ℕ) → link.sender ≡ Host → has_bit (shared_set link) 1 ≡ true → id < 256 ^ id_width link 1
-    → wire_number link (connect id speed class subclass protocol vendor product none) ≡ 24
+    → wire_number link (connect id speed class subclass protocol vendor product None) ≡ 24
 unfolding wire_number kind_number bad kinds id_width shared_set
 connect-24 link id speed class subclass protocol vendor product h b n =
     cases (leb speed 3 || eqb speed 255) (λ t. rw (h, b, lt-leb (256 ^ id_width link 1) id n, t) refl) (λ t. rw (h, b, lt-leb (256 ^ id_width link 1) id n, t) refl)
@@ -134,7 +133,7 @@ connect-is s id speed class subclass protocol vendor product space =
     record {
       present = λ version r b. (left-out-is-22 Host s (connect id speed class subclass protocol vendor product (one version)) space r).connect-version refl refl b (version ∷ []) refl;
       absent = λ r b n.
-          let p : Content = connect id speed class subclass protocol vendor product none in
+          let p : Content = connect id speed class subclass protocol vendor product None in
           (writer-number-is Host s p space r).rule-broken.1 ((wire-number-is (link_of Host s) p).rule-broken.0 (connect-24 (link_of Host s) id speed class subclass protocol vendor product refl b n));
     }
 
@@ -145,8 +144,8 @@ module _ (s : Session) (id : ℕ) (types intervals interfaces : List ℕ) (packe
   t = table id types intervals interfaces packets streams
 
   -- nothing is there that is not shared
-  table-sharing : ((xs : List ℕ) → packets ≡ some xs → has_bit (shared_set (link_of Host s)) 4 ≡ true)
-      → ((xs : List ℕ) → streams ≡ some xs → (has_bit (shared_set (link_of Host s)) 4 ≡ true) × (has_bit (shared_set (link_of Host s)) 0 ≡ true))
+  table-sharing : ((xs : List ℕ) → packets ≡ Some xs → has_bit (shared_set (link_of Host s)) 4 ≡ true)
+      → ((xs : List ℕ) → streams ≡ Some xs → (has_bit (shared_set (link_of Host s)) 4 ≡ true) × (has_bit (shared_set (link_of Host s)) 0 ≡ true))
       → id < 256 ^ id_width (link_of Host s) 5 → Sharing (link_of Host s) (kind_at 5) t
   unfolding kinds
   table-sharing a b n = record { needed = tt; fields = at; narrow = λ z. (id-fits (link_of Host s) 5 id z n).0; wide = λ z. (id-fits (link_of Host s) 5 id z n).1 }
@@ -157,9 +156,9 @@ module _ (s : Session) (id : ℕ) (types intervals interfaces : List ℕ) (packe
       at (suc (suc zero)) h xs e = tt
       at (suc (suc (suc zero))) h xs e = a xs e
       at (suc (suc (suc (suc zero)))) h xs e = b xs e
-      at (suc (suc (suc (suc (suc i))))) h xs e = absurd (none-ne-some _ e)
+      at (suc (suc (suc (suc (suc i))))) h xs e = absurd (none-some _ e)
 
-  table-sized : Rows32 (some types) → Rows32 (some intervals) → Rows32 (some interfaces) → Rows32 packets → Rows32 streams → Sized (link_of Host s) (kind_at 5) t
+  table-sized : Rows32 (Some types) → Rows32 (Some intervals) → Rows32 (Some interfaces) → Rows32 packets → Rows32 streams → Sized (link_of Host s) (kind_at 5) t
   unfolding kinds
   table-sized a b c d e = record { all = lit≤ tt; whole = at; tail = refl }
     where
@@ -169,11 +168,11 @@ module _ (s : Session) (id : ℕ) (types intervals interfaces : List ℕ) (packe
       at (suc (suc zero)) h xs q = c xs q
       at (suc (suc (suc zero))) h xs q = d xs q
       at (suc (suc (suc (suc zero)))) h xs q = e xs q
-      at (suc (suc (suc (suc (suc i))))) h xs q = absurd (none-ne-some _ q)
+      at (suc (suc (suc (suc (suc i))))) h xs q = absurd (none-some _ q)
 
 -- a field that is not there has no numbers
-absent-of : (v : Value) → v ≡ none → (xs : List ℕ) → v ≡ some xs → ⊥
-absent-of v e xs q = none-ne-some _ (sym e ∙ q)
+absent-of : (v : Value) → v ≡ None → (xs : List ℕ) → v ≡ Some xs → ⊥
+absent-of v e xs q = none-some _ (sym e ∙ q)
 
 pub table_is : TableIs
 table_is s id types intervals interfaces packets streams space r =
@@ -196,14 +195,14 @@ table_is s id types intervals interfaces packets streams space r =
 -- ---- a bulk packet
 
 -- one number
-one_number : (x : ℕ) (xs : List ℕ) → one x ≡ some xs → length xs ≡ 1
-one_number x xs e = ap length (sym (some-injective _ _ e))
+one_number : (x : ℕ) (xs : List ℕ) → one x ≡ Some xs → length xs ≡ 1
+one_number x xs e = ap length (sym (same_Some _ _ e))
 
 module _ (from : Side) (s : Session) (id e status low stream : ℕ) (high : Value) (rest : List ℕ) where
   abbrev u : Content
   u = bulk id e status low stream high rest
 
-  bulk-sharing : high ≡ none → id < 256 ^ id_width (link_of from s) 101 → Sharing (link_of from s) (kind_at 29) u
+  bulk-sharing : high ≡ None → id < 256 ^ id_width (link_of from s) 101 → Sharing (link_of from s) (kind_at 29) u
   unfolding kinds
   bulk-sharing z n = record { needed = tt; fields = at; narrow = λ k. (id-fits (link_of from s) 101 id k n).0; wide = λ k. (id-fits (link_of from s) 101 id k n).1 }
     where
@@ -213,10 +212,10 @@ module _ (from : Side) (s : Session) (id e status low stream : ℕ) (high : Valu
       at (suc (suc zero)) h xs q = tt
       at (suc (suc (suc zero))) h xs q = tt
       at (suc (suc (suc (suc zero)))) h xs q = absurd (absent-of high z xs q)
-      at (suc (suc (suc (suc (suc i))))) h xs q = absurd (none-ne-some _ q)
+      at (suc (suc (suc (suc (suc i))))) h xs q = absurd (none-some _ q)
 
   -- the count is the low part
-  low_count : high ≡ none → data_count (link_of from s) (kind_at 29) u ≡ low
+  low_count : high ≡ None → data_count (link_of from s) (kind_at 29) u ≡ low
   unfolding kinds
   low_count z = go (has_bit (shared_set (link_of from s)) 6) (ap first_number z)
     where
@@ -224,7 +223,7 @@ module _ (from : Side) (s : Session) (id e status low stream : ℕ) (high : Valu
       go true k = omega (arith, k)
       go false k = refl
 
-  bulk-sized : high ≡ none → (Onward from e → length rest ≡ low) → ((Onward from e → ⊥) → length rest ≡ 0) → Sized (link_of from s) (kind_at 29) u
+  bulk-sized : high ≡ None → (Onward from e → length rest ≡ low) → ((Onward from e → ⊥) → length rest ≡ 0) → Sized (link_of from s) (kind_at 29) u
   unfolding kinds
   bulk-sized z a b = record { all = lit≤ tt; whole = at; tail = (λ o. a o ∙ sym (low_count z), b) }
     where
@@ -234,10 +233,10 @@ module _ (from : Side) (s : Session) (id e status low stream : ℕ) (high : Valu
       at (suc (suc zero)) h xs q = one_number low xs q
       at (suc (suc (suc zero))) h xs q = one_number stream xs q
       at (suc (suc (suc (suc zero)))) h xs q = absurd (absent-of high z xs q)
-      at (suc (suc (suc (suc (suc i))))) h xs q = absurd (none-ne-some _ q)
+      at (suc (suc (suc (suc (suc i))))) h xs q = absurd (none-some _ q)
 
   -- a high part that is there is one that is not shared
-  high-22 : (space : ℕ) → Reaches from s u → has_bit (shared_set (link_of from s)) 6 ≡ false → (xs : List ℕ) → high ≡ some xs → write_by from s u space ≡ 22
+  high-22 : (space : ℕ) → Reaches from s u → has_bit (shared_set (link_of from s)) 6 ≡ false → (xs : List ℕ) → high ≡ Some xs → write_by from s u space ≡ 22
   unfolding kinds
   high-22 space r b xs q = surplus from s u space r (kind_at 29) (line-101 u refl) tt length_high (lit< tt) (λ w. true≢false (sym w ∙ b)) xs q
 
@@ -254,24 +253,24 @@ bulk-is from s id e status low stream high rest space r =
 -- ---- the packets of the code
 
 connect-said : (caps id : ℕ) (x : ConnectFields) (body : List ℕ)
-    → content_of caps id (Connect x) body ≡ connect id x.speed x.class x.subclass x.protocol x.vendor x.product (single (optional x.version))
+    → content_of caps id (Connect x) body ≡ connect id x.speed x.class x.subclass x.protocol x.vendor x.product (single x.version)
 unfolding content_of layout kinds
 connect-said caps id x body = refl
 
 pub connect-packet-is : ConnectPacketIs
 connect-packet-is s id x body space r =
     record {
-      present = λ v q b. let w = said-as (Present v) q in ap (λ (p : Content). write_by Host s p space) w ∙ numbers_of.present v (subst (Reaches Host s) w r) b;
-      absent = λ q b n. let w = said-as Absent q in ap (λ (p : Content). write_by Host s p space) w ∙ numbers_of.absent (subst (Reaches Host s) w r) b n;
+      present = λ v q b. let w = said-as (Some v) q in ap (λ (p : Content). write_by Host s p space) w ∙ numbers_of.present v (subst (Reaches Host s) w r) b;
+      absent = λ q b n. let w = said-as None q in ap (λ (p : Content). write_by Host s p space) w ∙ numbers_of.absent (subst (Reaches Host s) w r) b n;
     }
   where
     numbers_of : ConnectNumbers s id x.speed x.class x.subclass x.protocol x.vendor x.product space
     numbers_of = connect-is s id x.speed x.class x.subclass x.protocol x.vendor x.product space
 
-    said-as : (v : Optional16) → x.version ≡ v → said_by Host s id (Connect x) body ≡ connect id x.speed x.class x.subclass x.protocol x.vendor x.product (single (optional v))
+    said-as : (v : Option ℕ) → x.version ≡ v → said_by Host s id (Connect x) body ≡ connect id x.speed x.class x.subclass x.protocol x.vendor x.product (single v)
     said-as v q =
         connect-said (shared_set (link_of Host s)) id x body
-        ∙ ap (λ (o : Optional16). connect id x.speed x.class x.subclass x.protocol x.vendor x.product (single (optional o))) q
+        ∙ ap (λ (o : Option ℕ). connect id x.speed x.class x.subclass x.protocol x.vendor x.product (single o)) q
 
 -- a column of 32 numbers of w bytes, none where it is cut short
 abbrev column : ℕ → List ℕ → List ℕ
@@ -289,10 +288,10 @@ module _ (packets streams : Bool) (part : List ℕ) where
   behind = drop 32 (drop 32 (drop 32 rows))
 
   abbrev max_packets : Value
-  max_packets = cond packets (some (column 2 behind)) none
+  max_packets = cond packets (Some (column 2 behind)) None
 
   abbrev all_streams : Value
-  all_streams = cond streams (some (column 4 (drop (cond packets 64 0) behind))) none
+  all_streams = cond streams (Some (column 4 (drop (cond packets 64 0) behind))) None
 
   abbrev table_of : ℕ → Content
   table_of id = table id (column 1 rows) (column 1 (drop 32 rows)) (column 1 (drop 32 (drop 32 rows))) max_packets all_streams
@@ -320,34 +319,34 @@ module _ (packets streams : Bool) (part : List ℕ) where
         let c = length-drop 32 rows in
         let d = rows-count in omega (arith, a, b, c, d)
 
-    first_rows : Rows32 (some (column 1 rows))
-    first_rows xs e = ap length (sym (some-injective _ _ e)) ∙ column-length 1 rows (let d = rows-count in omega (arith, d))
+    first_rows : Rows32 (Some (column 1 rows))
+    first_rows xs e = ap length (sym (same_Some _ _ e)) ∙ column-length 1 rows (let d = rows-count in omega (arith, d))
 
-    second-rows : Rows32 (some (column 1 (drop 32 rows)))
+    second-rows : Rows32 (Some (column 1 (drop 32 rows)))
     second-rows xs e =
-        ap length (sym (some-injective _ _ e)) ∙ column-length 1 (drop 32 rows) (let d = rows-count in let c = length-drop 32 rows in omega (arith, c, d))
+        ap length (sym (same_Some _ _ e)) ∙ column-length 1 (drop 32 rows) (let d = rows-count in let c = length-drop 32 rows in omega (arith, c, d))
 
-    third-rows : Rows32 (some (column 1 (drop 32 (drop 32 rows))))
+    third-rows : Rows32 (Some (column 1 (drop 32 (drop 32 rows))))
     third-rows xs e =
-        ap length (sym (some-injective _ _ e))
+        ap length (sym (same_Some _ _ e))
         ∙ column-length 1 (drop 32 (drop 32 rows)) (let d = rows-count in let c = length-drop 32 rows in let b = length-drop 32 (drop 32 rows) in omega (arith, b, c, d))
 
     packet-rows : Rows32 max_packets
     packet-rows xs e =
         cases packets
-        (λ t. let q : some (column 2 behind) ≡ some xs = sym (rw t refl) ∙ e in
+        (λ t. let q : Some (column 2 behind) ≡ Some xs = sym (rw t refl) ∙ e in
         let n : ◌≡◌ {A = ℕ} (cond packets 64 0) 64 = rw t refl in
-        ap length (sym (some-injective _ _ q)) ∙ column-length 2 behind (let d = behind-count in omega (arith, d, n)))
-        (λ t. let q : none ≡ some xs = sym (rw t refl) ∙ e in absurd (none-ne-some _ q))
+        ap length (sym (same_Some _ _ q)) ∙ column-length 2 behind (let d = behind-count in omega (arith, d, n)))
+        (λ t. let q : None ≡ Some xs = sym (rw t refl) ∙ e in absurd (none-some _ q))
 
     stream-rows : Rows32 all_streams
     stream-rows xs e =
         cases streams
-        (λ t. let q : some (column 4 (drop (cond packets 64 0) behind)) ≡ some xs = sym (rw t refl) ∙ e in
+        (λ t. let q : Some (column 4 (drop (cond packets 64 0) behind)) ≡ Some xs = sym (rw t refl) ∙ e in
         let n : ◌≡◌ {A = ℕ} (cond streams 128 0) 128 = rw t refl in
-        ap length (sym (some-injective _ _ q))
+        ap length (sym (same_Some _ _ q))
         ∙ column-length 4 (drop (cond packets 64 0) behind) (let d = behind-count in let c = length-drop (cond packets 64 0) behind in omega (arith, c, d, n)))
-        (λ t. let q : none ≡ some xs = sym (rw t refl) ∙ e in absurd (none-ne-some _ q))
+        (λ t. let q : None ≡ Some xs = sym (rw t refl) ∙ e in absurd (none-some _ q))
 
 table-said : (caps id : ℕ) (x : EndpointTableFields) (body : List ℕ) → content_of caps id (EndpointTable x) body ≡ table_of x.maxpacket x.maxstreams (in_part x.rows body) id
 unfolding content_of layout kinds
@@ -373,17 +372,17 @@ table-packet-is s id x body space r =
           ∙ n.streams-absent (first_rows packets streams part h) (second-rows packets streams part h) (third-rows packets streams part h) (packet-rows packets streams part h) i four zero-too (gone streams t _);
     }
   where
-    there : (b : Bool) → b ≡ true → (xs : List ℕ) → cond b (some xs) none ≡ some xs
+    there : (b : Bool) → b ≡ true → (xs : List ℕ) → cond b (Some xs) None ≡ Some xs
     there true t xs = refl
     there false t xs = absurd (false≢true t)
 
-    gone : (b : Bool) → b ≡ false → (xs : List ℕ) → ◌≡◌ {A = Value} (cond b (some xs) none) none
+    gone : (b : Bool) → b ≡ false → (xs : List ℕ) → ◌≡◌ {A = Value} (cond b (Some xs) None) None
     gone true t xs = absurd (true≢false t)
     gone false t xs = refl
 
-    given : (b : Bool) (xs ys : List ℕ) → cond b (some xs) none ≡ some ys → b ≡ true
+    given : (b : Bool) (xs ys : List ℕ) → cond b (Some xs) None ≡ Some ys → b ≡ true
     given true xs ys e = refl
-    given false xs ys e = absurd (none-ne-some _ e)
+    given false xs ys e = absurd (none-some _ e)
 
 bulk-said : (caps id : ℕ) (x : BulkFields) (body : List ℕ)
     → content_of caps id (Bulk x) body ≡ bulk id x.endpoint.0 x.status (x.length % 65536) x.stream (single (high caps x.length)) (in_part x.payload body)

@@ -1,10 +1,8 @@
 -- Demand 3 at work: a session, a list of writer calls of which one is refused, and the joined bytes offered in three pieces, of which the first two
 -- cut across the packets, with the reply to the first packet between. So what demand 3 says of all lists is said of some.
 -- Assumes nothing: these are definitions, and the statement that `proofs/AtWork.antt` proves.
-use Rattle.std.specs.Prelude.{ℕ, true, false, List, [], ◌∷◌, ◌++◌, map, ◌≡◌, set, replicate}
-use Rattle.std.proofs.Math.Option.{none}
+use Rattle.std.specs.Prelude.{ℕ, true, false, List, [], ◌∷◌, ◌++◌, map, ◌≡◌, set, replicate, Some, None}
 use Rattle.header.specs.declared.Side.TheVariants.{Guest, Host}
-use Rattle.header.specs.declared.HelloState.TheVariants.{Passed}
 use Rattle.kinds.specs.Content.{one, Content, packet_of}
 use Rattle.device.specs.declared.Introduction.TheVariants.{Two}
 use Rattle.device.specs.Device.{bulk, start_rows}
@@ -21,7 +19,7 @@ start =
     record {
       session =
           record {
-            head = record { guest = Passed 0; host = Passed 0; stopped = false; held = record { guest = 0; host = 0 }; present = true; introduction = Two; owed = false };
+            head = record { guest = Some 0; host = Some 0; stopped = false; held = record { guest = 0; host = 0 }; present = true; introduction = Two; owed = false };
             rows = record { types = set start_rows.types 2 bulk; interfaces = start_rows.interfaces; streams = start_rows.streams };
             requests = fresh_requests;
             watch = start_watch;
@@ -32,7 +30,7 @@ start =
 
 -- M3, a get_config whose id takes more than 32 bits, and M1
 abbrev pub m3 : Content
-m3 = packet_of 101 9 (one 2 ∷ one 0 ∷ one 2 ∷ one 0 ∷ none ∷ []) (170 ∷ 187 ∷ [])
+m3 = packet_of 101 9 (one 2 ∷ one 0 ∷ one 2 ∷ one 0 ∷ None ∷ []) (170 ∷ 187 ∷ [])
 
 abbrev pub wide : Content
 wide = packet_of 7 4294967296 [] []

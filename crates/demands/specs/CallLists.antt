@@ -1,7 +1,6 @@
 -- Lists of reader calls of both directions: what each call gets and leaves, which answers end a packet, and which bytes are taken.
 -- Assumes nothing: these are definitions.
-use Rattle.std.specs.Prelude.{ℕ, Bool, cond, not, List, [], ◌∷◌, ◌++◌, take}
-use Rattle.std.proofs.Math.Option.{Option}
+use Rattle.std.specs.Prelude.{ℕ, Bool, cond, not, List, [], ◌∷◌, ◌++◌, take, Option}
 use Rattle.header.specs.declared.Side.{Side}
 use Rattle.header.specs.declared.Side.TheVariants.{Guest, Host}
 use Rattle.decoder.specs.Reading.{PacketTold}

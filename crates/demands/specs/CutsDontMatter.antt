@@ -2,8 +2,7 @@
 -- the same answers that end a packet, the same packets and the same session (`CutsDontMatter`). More is said by `Plays`: a list of calls is held against
 -- `play`, which knows no pieces, is given each end's bytes and the order, and takes packet after packet.
 -- Assumes nothing: these are definitions and statements.
-use Rattle.std.specs.Prelude.{ℕ, ◌≤◌, List, [], ◌∷◌, ◌++◌, ◌≡◌, drop, length, take}
-use Rattle.std.proofs.Math.Option.{none}
+use Rattle.std.specs.Prelude.{ℕ, ◌≤◌, List, [], ◌∷◌, ◌++◌, ◌≡◌, drop, length, take, None}
 use Rattle.header.specs.declared.Side.{Side}
 use Rattle.header.specs.declared.Side.TheVariants.{Guest, Host}
 use Rattle.frame.specs.Cut.{Cut, more, bad, whole}
@@ -48,7 +47,7 @@ pub record FirstPacket : Type 0 where
 
 abbrev pub first_packet_as : Side → Session → List ℕ → Cut → FirstPacket
 first_packet_as d s b more = record { ended = []; session = s; size = 0 }
-first_packet_as d s b (bad n) = record { ended = record { from = d; number = n; handed = none } ∷ []; session = stopped_now s; size = head_size (link_of d s) b }
+first_packet_as d s b (bad n) = record { ended = record { from = d; number = n; handed = None } ∷ []; session = stopped_now s; size = head_size (link_of d s) b }
 first_packet_as d s b (whole n) =
     record { ended = record { from = d; number = (verdict_of s d (take n b)).number; handed = (verdict_of s d (take n b)).handed } ∷ []; session = (verdict_of s d (take n b)).session; size = n }
 

@@ -3,8 +3,7 @@
 -- (`ReplyInGate`); a packet that passes does what the judge says (`MovesInGate`), and is handed out (`HandedInGate`). A packet is written exactly
 -- when the same checks allow it (`WriterExactly`).
 -- Assumes nothing: these are definitions and statements.
-use Rattle.std.specs.Prelude.{ℕ, ◌≤◌, true, List, [], ◌∷◌, ◌++◌, ◌≡◌, ◌⊎◌, ◌↔◌, eqb, length, take}
-use Rattle.std.proofs.Math.Option.{Option, none, some}
+use Rattle.std.specs.Prelude.{ℕ, ◌≤◌, true, List, [], ◌∷◌, ◌++◌, ◌≡◌, ◌⊎◌, ◌↔◌, eqb, length, take, Option, Some, None}
 use Rattle.header.specs.declared.Side.{Side}
 use Rattle.header.specs.declared.Link.{Link}
 use Rattle.header.specs.Header.{header_number}
@@ -77,8 +76,8 @@ MovesInGate =
 
 -- the packet that is handed out, as a list of at most one
 abbrev pub contents : Option PacketTold → List Content
-contents none = []
-contents (some h) = h.content ∷ []
+contents None = []
+contents (Some h) = h.content ∷ []
 
 -- "at 0 what the reader hands out is that reading"
 abbrev pub HandedInGate : Type 0

@@ -1,13 +1,10 @@
 -- Document 01: "Shared set: bits set in both hellos' first capability word. 0 bulk streams, .. 7 bulk receiving. Other bits and words are
 -- ignored." So sessions whose hellos have the same bits 0 to 7 cannot be told apart, and hellos that have them leave such sessions.
 -- Assumes nothing: these are definitions and a statement.
-use Rattle.std.specs.Prelude.{ℕ, ◌≤◌, Bool, true, false, List, [], ◌∷◌, ◌++◌, ◌≡◌, length, take}
-use Rattle.std.proofs.Math.Option.{Option, none, some}
+use Rattle.std.specs.Prelude.{ℕ, ◌≤◌, Bool, true, false, List, [], ◌∷◌, ◌++◌, ◌≡◌, length, take, Option, Some, None}
 use Rattle.octets.specs.Little.{le}
 use Rattle.octets.specs.Bits.{has_bit}
 use Rattle.header.specs.declared.Side.{Side}
-use Rattle.header.specs.declared.HelloState.{HelloState}
-use Rattle.header.specs.declared.HelloState.TheVariants.{Awaited, Passed}
 use Rattle.header.specs.Link.{passed, own}
 use Rattle.kinds.specs.Content.{Content}
 use Rattle.device.specs.declared.Head.{Head}
@@ -26,11 +23,11 @@ abbrev pub SameBits : ℕ → ℕ → Type 0
 SameBits v w = (j : ℕ) → j ≤ 7 → has_bit v j ≡ has_bit w j
 
 -- hellos both awaited, or both passed with such words
-abbrev pub AlikeHellos : HelloState → HelloState → Type 0
-AlikeHellos Awaited Awaited = Unit {0}
-AlikeHellos Awaited (Passed w) = ⊥
-AlikeHellos (Passed v) Awaited = ⊥
-AlikeHellos (Passed v) (Passed w) = SameBits v w
+abbrev pub AlikeHellos : Option ℕ → Option ℕ → Type 0
+AlikeHellos None None = Unit {0}
+AlikeHellos None (Some w) = ⊥
+AlikeHellos (Some v) None = ⊥
+AlikeHellos (Some v) (Some w) = SameBits v w
 
 pub record AlikeHeads (h k : Head) : Type 0 where
   pub guest : AlikeHellos h.guest k.guest
@@ -68,10 +65,10 @@ pub record AlikePackets (x y : PacketTold) : Type 0 where
   pub words : length x.content.rest ≡ length y.content.rest
 
 abbrev pub AlikeHanded : Option PacketTold → Option PacketTold → Type 0
-AlikeHanded none none = Unit {0}
-AlikeHanded none (some y) = ⊥
-AlikeHanded (some x) none = ⊥
-AlikeHanded (some x) (some y) = AlikePackets x y
+AlikeHanded None None = Unit {0}
+AlikeHanded None (Some y) = ⊥
+AlikeHanded (Some x) None = ⊥
+AlikeHanded (Some x) (Some y) = AlikePackets x y
 
 -- the sender's hello has passed
 abbrev pub begun : Side → Session → Bool

@@ -2,7 +2,8 @@
 -- handed out (`NothingLent`). What `gate::data_of` lends of it is what follows the packet's fields, the rest of the content that demand 3 speaks of
 -- (`DataLent`); the tables are read off the body row by row (`RowsLent`).
 -- Assumes nothing: these are definitions and statements.
-use Rattle.std.specs.Prelude.{ℕ, List, [], ◌++◌, ◌≡◌, drop, length, take}
+use Rattle.std.specs.Bool.{then_some}
+use Rattle.std.specs.Prelude.{ℕ, List, [], ◌++◌, ◌≡◌, drop, length, take, Some}
 use Rattle.header.specs.declared.Side.{Side}
 use Rattle.header.specs.Link.{shared_set}
 use Rattle.header.specs.Header.{length_of, header_of}
@@ -10,17 +11,16 @@ use Rattle.header.specs.declared.Header.{Header}
 use Rattle.kinds.specs.Content.{Value}
 use Rattle.kinds.specs.Codec.{layout}
 use Rattle.frame.specs.Frame.{head_size, bytes_at}
-use Rattle.packet.specs.Rows.{element, interface_row, endpoint_row, optional32_of}
+use Rattle.packet.specs.Rows.{element, interface_row, endpoint_row}
 use Rattle.packet.specs.declared.InterfaceTable.{InterfaceTable as InterfaceTableFields}
 use Rattle.packet.specs.declared.EndpointTable.{EndpointTable as EndpointTableFields}
 use Rattle.packet.specs.declared.Packet.{Packet}
 use Rattle.packet.specs.declared.Packet.TheVariants.{InterfaceTable, EndpointTable}
-use Rattle.packet.specs.Packet.{content_of, optional16_of}
+use Rattle.packet.specs.Packet.{content_of}
 use Rattle.session.specs.declared.Session.{Session}
 use Rattle.session.specs.Session.{link_of}
 use Rattle.gate.specs.Offer.{held_bytes, offer_of, outcome, body_in, data_in}
-use Rattle.gate.specs.declared.Handed.{Handed}
-use Rattle.gate.specs.declared.Handed.TheVariants.{OnePacket}
+use Rattle.gate.specs.Verdict.{Handed}
 use Rattle.gate.specs.declared.Offered.{Offered}
 use Rattle.demands.specs.Demand2.{packet_at}
 
@@ -30,7 +30,7 @@ use Rattle.demands.specs.Demand2.{packet_at}
 pub record LendsBody (from : Side) (s : Session) (hold piece : List ℕ) (n : ℕ) (c : Handed) (bytes : List ℕ) : Type 0 where
   pub header : Header
   pub packet : Packet
-  pub passed : c ≡ OnePacket header packet
+  pub passed : c ≡ Some (header, packet)
   pub begins : header ≡ header_of (link_of from s) (take n (held_bytes from s hold ++ piece))
   -- "The packet's data is handed out as a part of the piece or of the holding buffer, wherever it lies.": all that stands behind the header
   pub body : body_in c bytes ≡ drop (head_size (link_of from s) (held_bytes from s hold ++ piece)) (take n (held_bytes from s hold ++ piece))
@@ -54,18 +54,18 @@ NothingLent =
 
 -- "The packet's data is handed out": what follows the fields, of every packet with its header and its bytes, whatever is shared (`data-lent`)
 abbrev pub DataLent : Type 0
-DataLent = (caps : ℕ) (h : Header) (bytes : List ℕ) (p : Packet) → data_in (OnePacket h p) bytes ≡ (content_of caps h.id p (body_in (OnePacket h p) bytes)).rest
+DataLent = (caps : ℕ) (h : Header) (bytes : List ℕ) (p : Packet) → data_in (Some (h, p)) bytes ≡ (content_of caps h.id p (body_in (Some (h, p)) bytes)).rest
 
 -- ---- the rows of a table
 
 -- what a packet says, with its header and the bytes that are lent
 abbrev said_fields : ℕ → Header → List ℕ → Packet → List Value
-said_fields caps h bytes p = (content_of caps h.id p (body_in (OnePacket h p) bytes)).fields
+said_fields caps h bytes p = (content_of caps h.id p (body_in (Some (h, p)) bytes)).fields
 
 -- "tables are read by row": row i of the body that is lent is element i of each field
 pub record RowsLent (caps : ℕ) (h : Header) (bytes : List ℕ) : Type 0 where
   pub interface-row : (t : InterfaceTableFields) (i : ℕ)
-      → interface_row t (body_in (OnePacket h (InterfaceTable t)) bytes) i
+      → interface_row t (body_in (Some (h, InterfaceTable t)) bytes) i
       ≡ record {
         interface = element "interface" (layout 4) (said_fields caps h bytes (InterfaceTable t)) i;
         class = element "class" (layout 4) (said_fields caps h bytes (InterfaceTable t)) i;
@@ -73,13 +73,13 @@ pub record RowsLent (caps : ℕ) (h : Header) (bytes : List ℕ) : Type 0 where
         protocol = element "protocol" (layout 4) (said_fields caps h bytes (InterfaceTable t)) i;
       }
   pub endpoint-row : (t : EndpointTableFields) (i : ℕ)
-      → endpoint_row t (body_in (OnePacket h (EndpointTable t)) bytes) i
+      → endpoint_row t (body_in (Some (h, EndpointTable t)) bytes) i
       ≡ record {
         ty = element "type" (layout 5) (said_fields caps h bytes (EndpointTable t)) i;
         interval = element "interval" (layout 5) (said_fields caps h bytes (EndpointTable t)) i;
         interface = element "interface" (layout 5) (said_fields caps h bytes (EndpointTable t)) i;
-        maxpacket = optional16_of t.maxpacket (element "max packet" (layout 5) (said_fields caps h bytes (EndpointTable t)) i);
-        maxstreams = optional32_of t.maxstreams (element "max streams" (layout 5) (said_fields caps h bytes (EndpointTable t)) i);
+        maxpacket = then_some t.maxpacket (element "max packet" (layout 5) (said_fields caps h bytes (EndpointTable t)) i);
+        maxstreams = then_some t.maxstreams (element "max streams" (layout 5) (said_fields caps h bytes (EndpointTable t)) i);
       }
 
 -- whatever is shared, and of any header and bytes (`rows-lent`)

@@ -2,16 +2,13 @@
 -- and the writer cite. Each gives numbers: bytes put out, the numbers of reader calls, and of the packets that
 -- these hand out kind, id and what stands behind the fields.
 -- Assumes nothing: these are definitions and a statement. The proof is by computation.
-use Rattle.std.specs.Prelude.{ℕ, zero, suc, true, false, List, [], ◌∷◌, ◌++◌, ◌≡◌, replicate, set, take}
+use Rattle.std.specs.Prelude.{ℕ, zero, suc, true, false, List, [], ◌∷◌, ◌++◌, ◌≡◌, replicate, set, take, Option, Some, None}
 use Prim.Native.String.{String}
-use Rattle.std.proofs.Math.Option.{Option, none, some}
 use Rattle.octets.specs.Little.{bytes_of}
+use Rattle.endpoint.specs.declared.Row.{Row}
 use Rattle.endpoint.specs.Endpoint.{row_of}
-use Rattle.endpoint.specs.declared.RowOf.{RowOf}
-use Rattle.endpoint.specs.declared.RowOf.TheVariants.{At, Malformed}
 use Rattle.header.specs.declared.Side.{Side}
 use Rattle.header.specs.declared.Side.TheVariants.{Guest, Host}
-use Rattle.header.specs.declared.HelloState.TheVariants.{Passed}
 use Rattle.device.specs.Device.{bulk, start_rows}
 use Rattle.device.specs.declared.Introduction.TheVariants.{Two}
 use Rattle.requests.specs.declared.Requests.{Requests}
@@ -33,8 +30,8 @@ device_session word requests =
     record {
       head =
           record {
-            guest = Passed word;
-            host = Passed word;
+            guest = Some word;
+            host = Some word;
             stopped = false;
             held = record { guest = 0; host = 0 };
             present = true;
@@ -66,8 +63,8 @@ call_numbers x (c ∷ cs) = (answer_to x c).number ∷ call_numbers (next x c) c
 
 -- what the calls hand out: of each packet that passes kind, id and what stands behind its fields
 abbrev told_by : Option PacketTold → List ℕ
-told_by none = []
-told_by (some h) = h.content.kind ∷ h.content.id ∷ h.content.rest
+told_by None = []
+told_by (Some h) = h.content.kind ∷ h.content.id ∷ h.content.rest
 
 unfoldable pub handed_out : Both → List ReaderCall → List ℕ
 handed_out x [] = []
@@ -84,7 +81,7 @@ get_configuration id = packet_of 7 id [] []
 
 -- a bulk packet on an endpoint, without bit 6
 abbrev bulk_packet : ℕ → ℕ → ℕ → List ℕ → Content
-bulk_packet id e n rest = packet_of 101 id (one e ∷ one 0 ∷ one n ∷ one 0 ∷ none ∷ []) rest
+bulk_packet id e n rest = packet_of 101 id (one e ∷ one 0 ∷ one n ∷ one 0 ∷ None ∷ []) rest
 
 -- "bulk OUT endpoint 2, id 9, no bit 6, data AA BB", and "its reply"
 abbrev m3 : List ℕ
@@ -121,9 +118,9 @@ pub record Example : Type 0 where
   pub expected : List ℕ
 
 -- a row as a list: empty where the byte is no endpoint
-abbrev row_as_list : RowOf → List ℕ
-row_as_list (At r) = r.0 ∷ []
-row_as_list Malformed = []
+abbrev row_as_list : Option Row → List ℕ
+row_as_list (Some r) = r.0 ∷ []
+row_as_list None = []
 
 unfoldable pub marked : List Example
 unfolding call_numbers handed_out

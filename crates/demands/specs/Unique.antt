@@ -1,14 +1,16 @@
 -- Each contract of the public functions that is not an equation for the answer itself leaves one answer, and one state of every byte that the
 -- function was handed: two answers that both keep it are the same.
 -- Assumes nothing: these are the statements that `proofs/Unique.antt` proves.
-use Rattle.std.specs.Prelude.{ℕ, Bool, List, ◌≡◌}
+use Rattle.std.specs.Prelude.{ℕ, List, ◌≡◌, Result}
 use Rattle.header.specs.declared.Side.{Side}
 use Rattle.header.specs.declared.Header.{Header}
 use Rattle.header.specs.declared.Link.{Link}
+use Rattle.header.specs.declared.Refusal.{Refusal}
+use Rattle.header.specs.Refusal.{number_in}
 use Rattle.kinds.specs.Content.{Content}
-use Rattle.decoder.specs.declared.Reading.{Reading}
-use Rattle.decoder.specs.Reading.{told, told_behind, read_of, behind_of}
-use Rattle.device.specs.declared.Head.{Head}
+use Rattle.decoder.specs.Reading.{Reading, told, told_behind, read_of, behind_of}
+use Rattle.frame.specs.declared.Cut.{Cut}
+use Rattle.frame.specs.Frame.{told as cut_told}
 use Rattle.encoder.specs.declared.Written.{Written}
 use Rattle.encoder.specs.Written.{Writes}
 use Rattle.session.specs.declared.Session.{Session}
@@ -16,7 +18,7 @@ use Rattle.session.specs.Session.{link_of}
 use Rattle.gate.specs.declared.Decided.{Decided}
 use Rattle.gate.specs.declared.Offered.{Offered}
 use Rattle.gate.specs.Offer.{offer_of, outcome}
-use Rattle.gate.specs.Decide.{Lends, Decides}
+use Rattle.gate.specs.Decide.{Decides}
 use Rattle.gate.specs.Write.{WritesBy}
 
 -- what `gate::offer` ensures: of its answer with the session, and of the holding buffer after it
@@ -29,15 +31,10 @@ abbrev pub OneOffer : Type 0
 OneOffer = (from : Side) (s : Session) (hold piece : List ℕ) (r t : Offered) (after later : List ℕ)
     → Offers from s hold piece r after → Offers from s hold piece t later → (r ≡ t) × (after ≡ later)
 
--- what `gate::decide` ensures, of the head and the columns that are lent to it
-abbrev pub DecidesFor : Side → Head → List ℕ → List Bool → ℕ → List Bool → List ℕ → List ℕ → List ℕ → List ℕ → Decided → List ℕ → Type 0
-DecidesFor from h types streams used live kinds ids hold piece d after = (s : Session) → Lends s h types streams used live kinds ids → Decides from s d hold piece after
-
--- A call is decided in one way, with every byte of the holding buffer.
+-- A call is decided in one way, with every byte of the holding buffer (`gate::decide`).
 abbrev pub OneDecision : Type 0
-OneDecision = (from : Side) (h : Head) (types : List ℕ) (streams : List Bool) (used : ℕ) (live : List Bool) (kinds ids hold piece : List ℕ) (d k : Decided) (after later : List ℕ)
-    → DecidesFor from h types streams used live kinds ids hold piece d after → DecidesFor from h types streams used live kinds ids hold piece k later
-    → (d ≡ k) × (after ≡ later)
+OneDecision = (from : Side) (s : Session) (hold piece : List ℕ) (d k : Decided) (after later : List ℕ)
+    → Decides from s d hold piece after → Decides from s k hold piece later → (d ≡ k) × (after ≡ later)
 
 -- The bytes of a packet have one reading (`decoder::read`), and so has a body behind a header (`decoder::read_behind`).
 abbrev pub OneReading : Type 0
@@ -45,6 +42,14 @@ OneReading = (l : Link) (bytes : List ℕ) (v w : Reading) → told l bytes v �
 
 abbrev pub OneReadingBehind : Type 0
 OneReadingBehind = (l : Link) (h : Header) (body : List ℕ) (v w : Reading) → told_behind l body v ≡ behind_of l h body → told_behind l body w ≡ behind_of l h body → v ≡ w
+
+-- What is told of a cut decides it (`frame::cut_of`), and the number of a check whether it refuses, and why (`header::check_header`, the checks of
+-- `rules`).
+abbrev pub OneCut : Type 0
+OneCut = (c d : Cut) → cut_told c ≡ cut_told d → c ≡ d
+
+abbrev pub OneCheck : Type 0
+OneCheck = (v w : Result (Unit {0}) Refusal) → number_in v ≡ number_in w → v ≡ w
 
 -- A writer call has one answer: number, size, and every byte of the output (`gate::write`, and `encoder::write` without a session).
 abbrev pub OneWriting : Type 0

@@ -2,9 +2,8 @@
 -- packet, max streams) but is present, a bulk count over 65,535 without bit 6, or a non-hello's id over 32 bits without bit 5, is 22; such a
 -- field missing where shared is 24 and not 23." First of what a packet says (`Content`), then of the packets of the code.
 -- Assumes nothing: these are definitions, and the statements that `proofs/WriterNumbers.antt` proves.
-use Rattle.std.specs.Prelude.{ℕ, ◌^◌, ◌≤◌, ◌<◌, Bool, true, false, cond, List, [], ◌∷◌, ◌++◌, ◌≡◌, length}
+use Rattle.std.specs.Prelude.{ℕ, ◌^◌, ◌≤◌, ◌<◌, Bool, true, false, cond, List, [], ◌∷◌, ◌++◌, ◌≡◌, length, Some, None}
 use Prim.Native.String.{String}
-use Rattle.std.proofs.Math.Option.{none, some}
 use Rattle.octets.specs.Bits.{has_bit}
 use Rattle.header.specs.declared.Side.{Side}
 use Rattle.header.specs.declared.Side.TheVariants.{Host}
@@ -12,7 +11,6 @@ use Rattle.header.specs.Link.{shared_set, id_width}
 use Rattle.kinds.specs.Table.{Bits, always, bit, bits, Field, Kind, kinds, kind_at, u16, u32, ◌times◌, ◌with◌}
 use Rattle.kinds.specs.Content.{Value, one, Content, packet_of, named}
 use Rattle.kinds.specs.Formed.{Line, field_at, There, Sends, Sharing, Onward, count_with, Sized}
-use Rattle.packet.specs.declared.Optional16.TheVariants.{Absent, Present}
 use Rattle.packet.specs.declared.Connect.{Connect as ConnectFields}
 use Rattle.packet.specs.declared.EndpointTable.{EndpointTable as EndpointTableFields}
 use Rattle.packet.specs.declared.Bulk.{Bulk as BulkFields}
@@ -105,8 +103,8 @@ connect id speed class subclass protocol vendor product version = packet_of 1 id
 pub record ConnectNumbers (s : Session) (id speed class subclass protocol vendor product space : ℕ) : Type 0 where
   pub present : (version : ℕ) → Reaches Host s (connect id speed class subclass protocol vendor product (one version)) → has_bit (shared_set (link_of Host s)) 1 ≡ false
       → write_by Host s (connect id speed class subclass protocol vendor product (one version)) space ≡ 22
-  pub absent : Reaches Host s (connect id speed class subclass protocol vendor product none) → has_bit (shared_set (link_of Host s)) 1 ≡ true → id < 256 ^ id_width (link_of Host s) 1
-      → write_by Host s (connect id speed class subclass protocol vendor product none) space ≡ 24
+  pub absent : Reaches Host s (connect id speed class subclass protocol vendor product None) → has_bit (shared_set (link_of Host s)) 1 ≡ true → id < 256 ^ id_width (link_of Host s) 1
+      → write_by Host s (connect id speed class subclass protocol vendor product None) space ≡ 24
 
 abbrev pub ConnectIs : Type 0
 ConnectIs = (s : Session) (id speed class subclass protocol vendor product space : ℕ) → ConnectNumbers s id speed class subclass protocol vendor product space
@@ -114,21 +112,21 @@ ConnectIs = (s : Session) (id speed class subclass protocol vendor product space
 -- ---- an endpoint table of 32 rows, whatever they say
 
 abbrev pub table : ℕ → List ℕ → List ℕ → List ℕ → Value → Value → Content
-table id types intervals interfaces packets streams = packet_of 5 id (some types ∷ some intervals ∷ some interfaces ∷ packets ∷ streams ∷ []) []
+table id types intervals interfaces packets streams = packet_of 5 id (Some types ∷ Some intervals ∷ Some interfaces ∷ packets ∷ streams ∷ []) []
 
 -- a field of 32 numbers, or none
 abbrev pub Rows32 : Value → Type 0
-Rows32 v = (xs : List ℕ) → v ≡ some xs → length xs ≡ 32
+Rows32 v = (xs : List ℕ) → v ≡ Some xs → length xs ≡ 32
 
 -- With max packet and without bit 4, or with max streams and not both of bits 4 and 0, it is 22. Without one that is shared it is 24, where nothing is
 -- there that is not shared, its id fits, and each field that is there has 32 numbers.
 pub record TableNumbers (s : Session) (id : ℕ) (types intervals interfaces : List ℕ) (packets streams : Value) (n : ℕ) : Type 0 where
-  pub packets-present : has_bit (shared_set (link_of Host s)) 4 ≡ false → (xs : List ℕ) → packets ≡ some xs → n ≡ 22
-  pub streams-present : (has_bit (shared_set (link_of Host s)) 4 ≡ true → has_bit (shared_set (link_of Host s)) 0 ≡ true → ⊥) → (xs : List ℕ) → streams ≡ some xs → n ≡ 22
-  pub packets-absent : Rows32 (some types) → Rows32 (some intervals) → Rows32 (some interfaces) → Rows32 streams → id < 256 ^ id_width (link_of Host s) 5
-      → has_bit (shared_set (link_of Host s)) 4 ≡ true → ((xs : List ℕ) → streams ≡ some xs → has_bit (shared_set (link_of Host s)) 0 ≡ true) → packets ≡ none → n ≡ 24
-  pub streams-absent : Rows32 (some types) → Rows32 (some intervals) → Rows32 (some interfaces) → Rows32 packets → id < 256 ^ id_width (link_of Host s) 5
-      → has_bit (shared_set (link_of Host s)) 4 ≡ true → has_bit (shared_set (link_of Host s)) 0 ≡ true → streams ≡ none → n ≡ 24
+  pub packets-present : has_bit (shared_set (link_of Host s)) 4 ≡ false → (xs : List ℕ) → packets ≡ Some xs → n ≡ 22
+  pub streams-present : (has_bit (shared_set (link_of Host s)) 4 ≡ true → has_bit (shared_set (link_of Host s)) 0 ≡ true → ⊥) → (xs : List ℕ) → streams ≡ Some xs → n ≡ 22
+  pub packets-absent : Rows32 (Some types) → Rows32 (Some intervals) → Rows32 (Some interfaces) → Rows32 streams → id < 256 ^ id_width (link_of Host s) 5
+      → has_bit (shared_set (link_of Host s)) 4 ≡ true → ((xs : List ℕ) → streams ≡ Some xs → has_bit (shared_set (link_of Host s)) 0 ≡ true) → packets ≡ None → n ≡ 24
+  pub streams-absent : Rows32 (Some types) → Rows32 (Some intervals) → Rows32 (Some interfaces) → Rows32 packets → id < 256 ^ id_width (link_of Host s) 5
+      → has_bit (shared_set (link_of Host s)) 4 ≡ true → has_bit (shared_set (link_of Host s)) 0 ≡ true → streams ≡ None → n ≡ 24
 
 abbrev pub TableIs : Type 0
 TableIs = (s : Session) (id : ℕ) (types intervals interfaces : List ℕ) (packets streams : Value) (space : ℕ) → Reaches Host s (table id types intervals interfaces packets streams)
@@ -142,8 +140,8 @@ bulk id e status low stream high rest = packet_of 101 id (one e ∷ one status �
 -- With a high part and without bit 6 it is 22. Without one and with bit 6 it is 24, where its id fits and its data is of the size of the low part;
 -- no packet of the code says that.
 pub record BulkNumbers (from : Side) (s : Session) (id e status low stream : ℕ) (high : Value) (rest : List ℕ) (n : ℕ) : Type 0 where
-  pub high-present : has_bit (shared_set (link_of from s)) 6 ≡ false → (xs : List ℕ) → high ≡ some xs → n ≡ 22
-  pub high-absent : has_bit (shared_set (link_of from s)) 6 ≡ true → high ≡ none → id < 256 ^ id_width (link_of from s) 101
+  pub high-present : has_bit (shared_set (link_of from s)) 6 ≡ false → (xs : List ℕ) → high ≡ Some xs → n ≡ 22
+  pub high-absent : has_bit (shared_set (link_of from s)) 6 ≡ true → high ≡ None → id < 256 ^ id_width (link_of from s) 101
       → (Onward from e → length rest ≡ low) → ((Onward from e → ⊥) → length rest ≡ 0) → n ≡ 24
 
 abbrev pub BulkIs : Type 0
@@ -158,8 +156,8 @@ said_by from s id x body = content_of (shared_set (link_of from s)) id x body
 
 -- A connect whose version is present is 22 without bit 1. One whose version is absent is 24 with bit 1, where its id fits.
 pub record ConnectPacket (s : Session) (id : ℕ) (x : ConnectFields) (n : ℕ) : Type 0 where
-  pub present : (version : ℕ) → x.version ≡ Present version → has_bit (shared_set (link_of Host s)) 1 ≡ false → n ≡ 22
-  pub absent : x.version ≡ Absent → has_bit (shared_set (link_of Host s)) 1 ≡ true → id < 256 ^ id_width (link_of Host s) 1 → n ≡ 24
+  pub present : (version : ℕ) → x.version ≡ Some version → has_bit (shared_set (link_of Host s)) 1 ≡ false → n ≡ 22
+  pub absent : x.version ≡ None → has_bit (shared_set (link_of Host s)) 1 ≡ true → id < 256 ^ id_width (link_of Host s) 1 → n ≡ 24
 
 abbrev pub ConnectPacketIs : Type 0
 ConnectPacketIs = (s : Session) (id : ℕ) (x : ConnectFields) (body : List ℕ) (space : ℕ) → Reaches Host s (said_by Host s id (Connect x) body)

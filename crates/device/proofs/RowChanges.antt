@@ -1,31 +1,29 @@
 -- What each change leaves at a row, and that none but a new endpoint table changes a type.
 -- A column that a change makes is tabulated, so that its value at each of the 32 rows is that of its function (`tabulated-at`), whatever was
 -- there before; the others are as they were. Rows 0 and 16 are control by their types alone (`closed-control`, `stream-control`,
--- `replaced-control`). A stream that a packet moves is at the row of its endpoint, which is below 32 (`stream-by-row`).
+-- `replaced-control`).
 -- Assumes nothing.
+use Rattle.std.specs.Prelude.{Option, Some, None}
 use Prim.Native.Nat.{ℕ, ◌+◌, ◌<◌}
 use mathlib.Core.Path.{◌≡◌, refl, sym, ap, ◌∙◌}
 use mathlib.Core.Bool.{Bool, true, false, cond, not, ◌&&◌, ◌||◌, and-true, and-false}
 use mathlib.Core.List.{List}
 use native.Mathlib.Nat.{zero-add}
 use lib.ListN.{length, get_or, set, replicate, get_or-replicate}
-use lib.Dec.{eqb, ltb}
-use borrow.Author.Tests.{eqb-true, eqb-false, eq-eqb, ne_eqb, lt-ltb, not-false}
+use lib.Dec.{eqb}
+use borrow.Author.Tests.{eqb-true, eqb-false, eq-eqb, ne_eqb, not-false}
 use borrow.Table.Steps.{cases}
 use Rattle.octets.specs.Bits.{has_bit}
 use Rattle.octets.proofs.Logic.{fails, failing, false-not}
+use Rattle.endpoint.specs.declared.Row.{Row}
 use Rattle.endpoint.specs.declared.Endpoint.{Endpoint}
-use Rattle.endpoint.specs.declared.RowOf.{RowOf}
-use Rattle.endpoint.specs.declared.RowOf.TheVariants.{At, Malformed}
 use Rattle.endpoint.specs.Endpoint.{row_of}
-use Rattle.endpoint.proofs.Passage.{endpoint-back}
 use Rattle.scan.specs.Scan.{put_at}
 use Rattle.scan.proofs.Searches.{get_d_set, any-absent, any-not, tabulated-length, tabulated-at}
 use Rattle.device.specs.declared.Rows.{Rows}
 use Rattle.device.specs.declared.Scope.{Scope}
 use Rattle.device.specs.declared.Scope.TheVariants.{NoRow, EveryRow, OfInterface}
 use Rattle.device.specs.Device.{control, invalid, RowState, closed_row, row_at, rows_of, start_rows, is_row, mistyped, mask_mistyped, with_streams, stream_in, stream_to, replaced, touches, closed, control_rows}
-use Rattle.device.specs.Columns.{stream_row_in, stream_row}
 
 -- ---- the rows as a list
 
@@ -75,10 +73,6 @@ closed-control d NoRow = refl
 closed-control d EveryRow = refl
 closed-control d (OfInterface n) = refl
 
-pub closed-nowhere : (d : Rows) → closed d NoRow ≡ d
-unfolding closed
-closed-nowhere d = refl
-
 -- ---- opening or closing the stream of an endpoint
 
 -- a value that changes at q, where q passes the test
@@ -103,9 +97,9 @@ stream_at d e k b r h = at (row_of e)
     either true q = λ j. with_stream (tabulated-at (λ (i : ℕ). cond (eqb i q) b (row_at d i).streaming) 32 r false h j) (row_at d r)
     either false q = refl
 
-    at : (o : RowOf) → row_at (stream_in d o k b) r ≡ with_stream (cond (is_row o r && eqb (row_at d r).ty k) b (row_at d r).streaming) (row_at d r)
-    at (At q) = either (eqb (row_at d q.0).ty k) q.0 ∙ (λ j. with_stream (moved (λ (i : ℕ). eqb (row_at d i).ty k) q.0 r b (row_at d r).streaming j) (row_at d r))
-    at Malformed = refl
+    at : (o : Option Row) → row_at (stream_in d o k b) r ≡ with_stream (cond (is_row o r && eqb (row_at d r).ty k) b (row_at d r).streaming) (row_at d r)
+    at (Some q) = either (eqb (row_at d q.0).ty k) q.0 ∙ (λ j. with_stream (moved (λ (i : ℕ). eqb (row_at d i).ty k) q.0 r b (row_at d r).streaming j) (row_at d r))
+    at None = refl
 
 pub stream-control : (d : Rows) (e : Endpoint) (k : ℕ) (b : Bool) → control_rows (stream_to d e k b) ≡ control_rows d
 unfolding stream_to
@@ -115,25 +109,9 @@ stream-control d e k b = at (row_of e)
     either true l = refl
     either false l = refl
 
-    at : (o : RowOf) → control_rows (stream_in d o k b) ≡ control_rows d
-    at (At q) = either (eqb (row_at d q.0).ty k) (put_at 32 false d.streams q.0 b)
-    at Malformed = refl
-
--- the change is a store at one row
-pub stream-by-row : (d : Rows) (e : Endpoint) (k : ℕ) (b : Bool) → e.0 < 256 → stream_to d e k b ≡ cond (ltb (stream_row d e k) 32) (with_streams d (put_at 32 false d.streams (stream_row d e k) b)) d
-unfolding stream_to stream_row
-stream-by-row d e k b low = at (row_of e) refl
-  where
-    store : ℕ → Rows
-    store i = with_streams d (put_at 32 false d.streams i b)
-
-    either : (t : Bool) (q : ℕ) → q < 32 → cond t (store q) d ≡ cond (ltb (cond t q 32) 32) (store (cond t q 32)) d
-    either true q h = rw (lt-ltb q 32 h)
-    either false q h = refl
-
-    at : (o : RowOf) → row_of e ≡ o → stream_in d o k b ≡ cond (ltb (stream_row_in d o k) 32) (store (stream_row_in d o k)) d
-    at (At q) found = either (eqb (row_at d q.0).ty k) q.0 (endpoint-back e q low found).1
-    at Malformed found = refl
+    at : (o : Option Row) → control_rows (stream_in d o k b) ≡ control_rows d
+    at (Some q) = either (eqb (row_at d q.0).ty k) (put_at 32 false d.streams q.0 b)
+    at None = refl
 
 -- ---- a new endpoint table
 
@@ -152,6 +130,9 @@ mask-absent d mask k e r h set =
     let here : mistyped mask k r (row_at d r) ≡ false =
     (λ j. mistyped mask k (sym (zero-add r) j) (sym (rows_at d r h) j)) ∙ any-absent (mistyped mask k) (rows_of d) 0 (closed_row 0) e r (rw (rows-length d) h) in
     eqb-true (row_at d r).ty k (not-false (eqb (row_at d r).ty k) (fails (has_bit mask r) (not (eqb (row_at d r).ty k)) here set))
+
+pub mask-found : (d : Rows) (mask k r : ℕ) → r < 32 → has_bit mask r ≡ true → ((row_at d r).ty ≡ k → ⊥) → mask_mistyped d mask k ≡ true
+mask-found d mask k r h set other = cases (mask_mistyped d mask k) (λ t. t) (λ t. absurd (other (mask-absent d mask k t r h set)))
 
 pub mask-none : (d : Rows) (mask k : ℕ) → ((r : ℕ) → r < 32 → has_bit mask r ≡ true → (row_at d r).ty ≡ k) → mask_mistyped d mask k ≡ false
 mask-none d mask k f = any-not (mistyped mask k) (rows_of d) 0 (closed_row 0) each

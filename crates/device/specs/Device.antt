@@ -1,11 +1,9 @@
 -- The device as the session knows it: the head, which is small, and the rows of its endpoints with their streams.
 -- Assumes nothing: these are definitions.
-use Rattle.std.specs.Prelude.{ℕ, Bool, true, false, cond, not, ◌&&◌, ◌||◌, List, get_or, set, replicate, eqb}
+use Rattle.std.specs.Prelude.{ℕ, Bool, true, false, cond, not, ◌&&◌, ◌||◌, List, get_or, set, replicate, eqb, Option, Some, None}
 use Rattle.octets.specs.Bits.{has_bit}
-use Rattle.header.specs.declared.HelloState.TheVariants.{Awaited}
+use Rattle.endpoint.specs.declared.Row.{Row}
 use Rattle.endpoint.specs.declared.Endpoint.{Endpoint}
-use Rattle.endpoint.specs.declared.RowOf.{RowOf}
-use Rattle.endpoint.specs.declared.RowOf.TheVariants.{At, Malformed}
 use Rattle.endpoint.specs.Endpoint.{row_of}
 use Rattle.scan.specs.Scan.{any_at, tabulated, put_at}
 use Rattle.device.specs.declared.Rows.{Rows}
@@ -56,17 +54,17 @@ unfoldable pub start_rows : Rows
 start_rows = record { types = set (set (replicate 32 invalid) 0 control) 16 control; interfaces = replicate 32 0; streams = replicate 32 false }
 
 -- the row of an endpoint; a byte that is no address has an invalid one
-abbrev pub row_in : Rows → RowOf → RowState
-row_in d (At r) = row_at d r.0
-row_in d Malformed = closed_row invalid
+abbrev pub row_in : Rows → Option Row → RowState
+row_in d (Some r) = row_at d r.0
+row_in d None = closed_row invalid
 
 abbrev pub state_at : Rows → Endpoint → RowState
 state_at d e = row_in d (row_of e)
 
 -- r is the row that was found; a byte that is no address has none
-abbrev pub is_row : RowOf → ℕ → Bool
-is_row (At q) r = eqb q.0 r
-is_row Malformed r = false
+abbrev pub is_row : Option Row → ℕ → Bool
+is_row (Some q) r = eqb q.0 r
+is_row None r = false
 
 -- ---- 28: "18, 19 (every mask bit)"
 
@@ -83,9 +81,9 @@ abbrev pub with_streams : Rows → List Bool → Rows
 with_streams d b = record { types = d.types; interfaces = d.interfaces; streams = b }
 
 -- the stream of a row opened or closed, "only where the row's type is that kind's"
-abbrev pub stream_in : Rows → RowOf → ℕ → Bool → Rows
-stream_in d (At r) ty b = cond (eqb (row_at d r.0).ty ty) (with_streams d (put_at 32 false d.streams r.0 b)) d
-stream_in d Malformed ty b = d
+abbrev pub stream_in : Rows → Option Row → ℕ → Bool → Rows
+stream_in d (Some r) ty b = cond (eqb (row_at d r.0).ty ty) (with_streams d (put_at 32 false d.streams r.0 b)) d
+stream_in d None ty b = d
 
 unfoldable pub stream_to : Rows → Endpoint → ℕ → Bool → Rows
 stream_to d e ty b = stream_in d (row_of e) ty b
@@ -114,11 +112,11 @@ closed d EveryRow = with_streams d (replicate 32 false)
 closed d (OfInterface n) = with_streams d (tabulated (λ (i : ℕ). (row_at d i).streaming && not (touches (OfInterface n) i (row_at d i).interface)) 0 32)
 
 -- the row of an endpoint is one of them; a byte that is no address has no row of an interface
-abbrev pub touched_in : Rows → Scope → RowOf → Bool
+abbrev pub touched_in : Rows → Scope → Option Row → Bool
 touched_in d NoRow r = false
 touched_in d EveryRow r = true
-touched_in d (OfInterface n) (At r) = touches (OfInterface n) r.0 (row_at d r.0).interface
-touched_in d (OfInterface n) Malformed = false
+touched_in d (OfInterface n) (Some r) = touches (OfInterface n) r.0 (row_at d r.0).interface
+touched_in d (OfInterface n) None = false
 
 unfoldable pub touched : Rows → Scope → Endpoint → Bool
 touched d s e = touched_in d s (row_of e)
@@ -133,4 +131,4 @@ control_rows d = eqb (row_at d 0).ty control && eqb (row_at d 16).ty control
 -- no hello has passed, nothing is held; "Start: no device, no introduction, .."
 unfoldable pub start_head : Head
 start_head =
-    record { guest = Awaited; host = Awaited; stopped = false; held = record { guest = 0; host = 0 }; present = false; introduction = Unintroduced; owed = false }
+    record { guest = None; host = None; stopped = false; held = record { guest = 0; host = 0 }; present = false; introduction = Unintroduced; owed = false }

@@ -1,2 +1,1 @@
 pub mod Device
-pub mod Columns

@@ -4,10 +4,10 @@
 -- fields that are read off bytes and written again are these bytes (`again`): so the body is the numbers, the rows and the rest as they stand
 -- (`whole`).
 -- Assumes nothing.
+use Rattle.std.specs.Prelude.{Option, Some, None}
 use mathlib.Core.Path.{◌≡◌, refl, sym, ap, ◌∙◌}
 use mathlib.Core.Bool.{Bool, true}
 use mathlib.Core.List.{List, [], ◌∷◌, ◌++◌, map, append_assoc, append-nil}
-use mathlib.Core.Option.{Option, none, some}
 use Prim.Native.Nat.{ℕ, ◌+◌, ◌≤◌, min}
 use native.Mathlib.Omega.{arith}
 use lib.ListN.{length, take, drop, length-append, length-map, drop_of_length-le}
@@ -41,8 +41,8 @@ use Rattle.encoder.proofs.Outcome.{capped}
 behind-complete : (fs : List Field) (vs : List (Option ℕ)) (ws : List Value) → complete fs (map single vs ++ ws) ≡ true → complete (drop (length vs) fs) ws ≡ true
 behind-complete fs [] ws h = h
 behind-complete [] (v ∷ vs) ws h = refl
-behind-complete (f ∷ fs) (none ∷ vs) ws h = behind-complete fs vs ws h
-behind-complete (f ∷ fs) (some x ∷ vs) ws h = behind-complete fs vs ws (and_parts (eqb 1 f.times) (complete fs (map single vs ++ ws)) h).1
+behind-complete (f ∷ fs) (None ∷ vs) ws h = behind-complete fs vs ws h
+behind-complete (f ∷ fs) (Some x ∷ vs) ws h = behind-complete fs vs ws (and_parts (eqb 1 f.times) (complete fs (map single vs ++ ws)) h).1
 
 -- rows that are all there are as long as their fields, or there are no fields
 rows-full : (has : Bits → Bool) (fs : List Field) (s : List ℕ) → complete fs (columns_in has fs s) ≡ true → (size has fs ≡ 0 → s ≡ []) → eqb (length s) (size has fs) ≡ true
@@ -69,7 +69,7 @@ abbrev content : Link → ℕ → Packet → List ℕ → Content
 content l id p body = content_of (shared_set l) id p body
 
 module _ (l : Link) (id : ℕ) (p : Packet) (body : List ℕ) (f : Fields) (s : Lists (shared_set l) p f) where
-  known : find (shown l p).kind kinds ≡ some (kind_at f.slot)
+  known : find (shown l p).kind kinds ≡ Some (kind_at f.slot)
   known = ap (λ (m : ℕ). find m kinds) (sym s.kind) ∙ found f.slot s.small
 
   fields : layout (shown l p).kind ≡ (kind_at f.slot).fields

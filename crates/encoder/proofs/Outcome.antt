@@ -1,4 +1,4 @@
--- What a call of the writer has to leave, by the number of the packet, over any content: no byte where it is refused (`refused`) or there is no
+-- What a call of the writer has to leave, by the number of the packet, over any content: no byte where it is refused (`unwritten`) or there is no
 -- room (`no_room`), else the packet in front (`put-out`); and which number it is, by the header or by the wire checks (`by-header`, `by-wire`).
 -- With the packet's number known, `write_number`, `written_size` and `written` compute. The code takes a part of more than 65,536 bytes for one of
 -- 65,536, so that no sum wraps: 10 refuses both (`capped`).
@@ -11,10 +11,13 @@ use native.Mathlib.Nat.{min-eq_left, min-eq_right}
 use native.Mathlib.Omega.{arith}
 use lib.ListN.{length}
 use lib.Seq.{sets}
-use lib.Dec.{ltb}
+use lib.Dec.{eqb, ltb}
 use borrow.Author.Tests.{ne_eqb, lt-ltb, le-ltb, ltb-true, ltb-false}
 use Rattle.header.specs.declared.Link.{Link}
+use Rattle.header.specs.declared.Refusal.{Refusal}
+use Rattle.header.specs.Refusal.{number_of}
 use Rattle.header.specs.Header.{header_number}
+use Rattle.header.proofs.Refusals.{refused}
 use Rattle.kinds.specs.Content.{Content}
 use Rattle.kinds.specs.Number.{wire_number}
 use Rattle.kinds.specs.Codec.{body_length, encode, packet_number, write_number, written, written_size, Accepted}
@@ -40,9 +43,9 @@ answer number size = record { number = number; size = size }
 -- ---- the packet's number
 
 module _ (l : Link) (q : Content) where
-  pub by-header : (n : ℕ) → n ≡ header_number l q.kind (body_length l q) → (n ≡ 0 → ⊥) → packet_number l q ≡ n
+  pub by-header : (r : Refusal) → number_of r ≡ header_number l q.kind (body_length l q) → packet_number l q ≡ number_of r
   unfolding packet_number
-  by-header n e h = rw (← e, ne_eqb n 0 h)
+  by-header r e = rw (← e, ne_eqb (number_of r) 0 (refused r))
 
   pub by-wire : (n : ℕ) → header_number l q.kind (body_length l q) ≡ 0 → n ≡ wire_number l q → packet_number l q ≡ n
   unfolding packet_number
@@ -51,11 +54,13 @@ module _ (l : Link) (q : Content) where
 -- ---- what is left behind
 
 module _ (l : Link) (q : Content) (out : List ℕ) where
-  pub refused : (n : ℕ) → packet_number l q ≡ n → (n ≡ 0 → ⊥) → Writes l q out (answer n 0) out
+  pub unwritten : (r : Refusal) → packet_number l q ≡ number_of r → Writes l q out (answer (number_of r) 0) out
   unfolding write_number written_size written
-  refused n e h =
-      let w : write_number l q (length out) ≡ n = rw (e, ne_eqb n 0 h) in
-      record { number = sym w; size = rw (w, ne_eqb n 0 h); output = rw (w, ne_eqb n 0 h); accepted = λ z. absurd (h z) }
+  unwritten r e =
+      let n : ℕ = number_of r in
+      let h : eqb n 0 ≡ false = ne_eqb n 0 (refused r) in
+      let w : write_number l q (length out) ≡ n = rw (e, h) in
+      record { number = sym w; size = rw (w, h); output = rw (w, h); accepted = λ z. absurd (refused r z) }
 
   -- "40 writer only: output shorter than the packet"
   pub no_room : packet_number l q ≡ 0 → length out < length (encode l q) → Writes l q out (answer 40 0) out

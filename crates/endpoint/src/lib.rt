@@ -8,26 +8,12 @@ ghost use Rattle.endpoint.specs.Endpoint.{is_address, is_in, row_of, endpoint_of
 use octets::has_bit;
 
 // An endpoint's address as on the wire: the number in bits 0 to 3, IN in bit 7.
-#[derive(Clone, Copy)]
+#[derive(Clone, Copy, PartialEq, Eq, Debug)]
 pub struct Endpoint(pub u8);
 
 // A row of the endpoint table: 0 to 15 for OUT, 16 to 31 for IN.
-#[derive(Clone, Copy)]
+#[derive(Clone, Copy, PartialEq, Eq, Debug)]
 pub struct Row(pub u8);
-
-// The row of an address, if it is one.
-#[derive(Clone, Copy)]
-pub enum RowOf {
-    At(Row),
-    Malformed,
-}
-
-// The endpoint of a row, if it is one of the 32.
-#[derive(Clone, Copy)]
-pub enum EndpointOf {
-    Of(Endpoint),
-    Outside,
-}
 
 // Bits 4 to 6 are zero.
 pub fn is_address(e: Endpoint) -> bool
@@ -43,26 +29,24 @@ pub fn is_in(e: Endpoint) -> bool
 }
 
 // The row of an endpoint, where its byte is an address.
-pub fn row_of(e: Endpoint) -> RowOf
+pub fn row_of(e: Endpoint) -> Option<Row>
     ensures { result ≡ row_of e }
 {
-    let b = e.0;
     if is_address(e) {
-        RowOf::At(Row((b & 15) | ((b >> 7) << 4)))
+        Some(Row((e.0 & 15) | ((e.0 >> 7) << 4)))
     } else {
-        RowOf::Malformed
+        None
     }
 }
 
 // The endpoint of a row, where its number is one of the 32.
-pub fn endpoint_of(r: Row) -> EndpointOf
+pub fn endpoint_of(r: Row) -> Option<Endpoint>
     ensures { result ≡ endpoint_of r }
 {
-    let n = r.0;
-    if n < 32 {
-        EndpointOf::Of(Endpoint((n & 15) | ((n >> 4) << 7)))
+    if r.0 < 32 {
+        Some(Endpoint((r.0 & 15) | ((r.0 >> 4) << 7)))
     } else {
-        EndpointOf::Outside
+        None
     }
 }
 
@@ -70,6 +54,5 @@ pub fn endpoint_of(r: Row) -> EndpointOf
 pub fn in_mask(mask: u32, r: Row) -> bool
     ensures { result ≡ has_bit mask r.0 }
 {
-    let k = r.0 as u32;
-    has_bit(mask, k)
+    has_bit(mask, u32::from(r.0))
 }

@@ -1,11 +1,10 @@
 -- The rows that a loop over an endpoint table fills: after i steps the first i rows are the table's and the others as at the start (`filled`).
 -- Assumes nothing.
-use Prim.Native.Nat.{ℕ, ◌+◌, ◌≤◌, ◌<◌, ◌-◌}
+use Prim.Native.Nat.{ℕ, ◌+◌, ◌≤◌, ◌<◌}
 use Prim.Native.String.{String}
 use mathlib.Core.Path.{◌≡◌, refl, ap, ◌∙◌}
 use mathlib.Core.List.{List}
 use native.Mathlib.Nat.{zero-add}
-use native.Mathlib.Omega.{arith}
 use lib.ListN.{length, set}
 use Rattle.scan.specs.Scan.{tabulated}
 use Rattle.scan.specs.Loop.{up_to, upto-none, upto_all}
@@ -13,7 +12,7 @@ use Rattle.scan.proofs.Searches.{each-length, each_at_lem, upto_step, tabulated-
 use Rattle.kinds.specs.Codec.{layout}
 use Rattle.packet.specs.declared.EndpointTable.{EndpointTable}
 use Rattle.packet.specs.Packet.{in_part, columns_of, columns_in}
-use Rattle.packet.specs.Rows.{element, endpoint_row}
+use Rattle.packet.specs.Rows.{element}
 use Rattle.device.specs.declared.Rows.{Rows}
 use Rattle.device.specs.Device.{start_rows}
 

@@ -1,8 +1,7 @@
 -- A packet as the session sees it: its class, and of its fields those that the session rules look at, each by its name.
 -- Assumes nothing: these are definitions.
-use Rattle.std.specs.Prelude.{ℕ, Bool, true, false, cond, ◌&&◌, List, ◌≡◌, get_or, eqb, leb}
+use Rattle.std.specs.Prelude.{ℕ, Bool, true, false, cond, ◌&&◌, List, ◌≡◌, get_or, eqb, leb, Option, Some, None}
 use Prim.Native.String.{String}
-use Rattle.std.proofs.Math.Option.{Option, none, some}
 use Rattle.octets.specs.Little.{le}
 use Rattle.endpoint.specs.declared.Endpoint.{Endpoint}
 use Rattle.endpoint.specs.Endpoint.{is_in}
@@ -65,11 +64,11 @@ is_targeted mask = false
 
 -- the rows whose type is wanted, and the type
 abbrev pub typed_of : Option ℕ → About → Content → Typed
-typed_of none a p = Untyped
-typed_of (some ty) nothing p = Untyped
-typed_of (some ty) endpoint p = OfEndpoint (record { 0 = field "endpoint" p }) ty
-typed_of (some ty) interface p = Untyped
-typed_of (some ty) mask p = OfMask (field "mask" p) ty
+typed_of None a p = Untyped
+typed_of (Some ty) nothing p = Untyped
+typed_of (Some ty) endpoint p = OfEndpoint (record { 0 = field "endpoint" p }) ty
+typed_of (Some ty) interface p = Untyped
+typed_of (Some ty) mask p = OfMask (field "mask" p) ty
 
 -- the first capability word of a hello; one without words offers nothing
 abbrev pub word_of : Content → ℕ

@@ -1,9 +1,8 @@
 -- The table of meanings against the lists of document 01, "Session rules", each by computation; and the word of a hello.
 -- Assumes nothing.
-use Rattle.std.specs.Prelude.{ℕ, suc, ◌+◌, ◌≡◌, refl, Bool, true, false, cond, not, ◌&&◌, ◌||◌, List, [], ◌∷◌, length, eqb, leb}
+use Rattle.std.specs.Prelude.{ℕ, suc, ◌+◌, ◌≡◌, refl, Bool, true, false, cond, not, ◌&&◌, ◌||◌, List, [], ◌∷◌, length, eqb, leb, Option, Some, None}
 use Rattle.std.proofs.Common.{◌∙◌}
 use Rattle.std.proofs.lemmas.Bool.{false≢true}
-use Rattle.std.proofs.Math.Option.{Option, none, some}
 use Rattle.std.proofs.Math.Dec.{leb-zero, leb-suc-suc}
 use Rattle.octets.specs.Little.{le}
 use Rattle.header.specs.declared.Side.{Side}
@@ -13,8 +12,6 @@ use Rattle.kinds.specs.Content.{Value, one, Content, packet_of}
 use Rattle.kinds.specs.Codec.{layout}
 use Rattle.kinds.specs.Slots.{from}
 use Rattle.kinds.specs.Number.{sends, tail_ok, is_none}
-use Rattle.packet.specs.declared.Optional32.{Optional32}
-use Rattle.packet.specs.declared.Optional32.TheVariants.{Absent, Present}
 use Rattle.packet.specs.Rows.{word_of as rows_word}
 use Rattle.device.specs.Device.{control, iso, bulk, interrupt, invalid}
 use Rattle.events.specs.Meaning.{Class, Hello, Connect, Interfaces, Endpoints, Disconnect, Reset, Ack, Cancel, Filter, StartRequest, PlainRequest, StreamStatus, PlainReply, StreamOut, StreamIn, Who, sender, guest, host, host-in, Line, meanings, admits, look_up}
@@ -90,8 +87,8 @@ abbrev typed : Line → Bool
 typed l = not (is_none l.meaning.wants)
 
 abbrev or_invalid : Option ℕ → ℕ
-or_invalid none = invalid
-or_invalid (some k) = k
+or_invalid None = invalid
+or_invalid (Some k) = k
 
 -- a line's kind, whose packets it is about, and the type that it wants
 abbrev type_of : Line → ℕ × Who × ℕ
@@ -171,9 +168,9 @@ by-sender = (refl, refl, refl, refl, refl, refl, refl, refl, refl, refl, refl, r
 
 -- ---- the word of a hello
 
-abbrev or_zero : Optional32 → ℕ
-or_zero Absent = 0
-or_zero (Present x) = x
+abbrev or_zero : Option ℕ → ℕ
+or_zero None = 0
+or_zero (Some x) = x
 
 -- the word that the event of a hello carries is its first word, and 0 where it has none
 pub first_word : (from : Side) (p : Content) → p.kind ≡ 0 → tail_ok words from [] [] (length p.rest) ≡ true

@@ -1,7 +1,6 @@
 -- What a packet means to the session: a table over kinds and senders, to be held against "Session rules" of document 01.
 -- Assumes nothing: these are definitions.
-use Rattle.std.specs.Prelude.{ℕ, Bool, true, cond, not, ◌&&◌, List, [], ◌∷◌, eqb}
-use Rattle.std.proofs.Math.Option.{Option, none, some}
+use Rattle.std.specs.Prelude.{ℕ, Bool, true, cond, not, ◌&&◌, List, [], ◌∷◌, eqb, Option, Some, None}
 use Rattle.header.specs.Link.{is_guest}
 use Rattle.header.specs.declared.Side.{Side}
 use Rattle.device.specs.Device.{control, iso, bulk, interrupt}
@@ -27,39 +26,39 @@ pub record Meaning : Type 0 where
 -- ---- how a line is written
 
 abbrev pub plain : Class → Meaning
-plain c = record { class = c; about = nothing; wants = none; first = 0; second = 0 }
+plain c = record { class = c; about = nothing; wants = None; first = 0; second = 0 }
 
 -- "12 start iso": opens a stream, on an endpoint of this type
 abbrev starts : ℕ → Meaning
-starts k = record { class = StartRequest; about = endpoint; wants = some k; first = 0; second = 0 }
+starts k = record { class = StartRequest; about = endpoint; wants = Some k; first = 0; second = 0 }
 
 -- a request about nothing, an interface, an endpoint of this type, or a mask of rows of this type
 abbrev requests : Meaning
 requests = plain PlainRequest
 
 abbrev requests_interface : Meaning
-requests_interface = record { class = PlainRequest; about = interface; wants = none; first = 0; second = 0 }
+requests_interface = record { class = PlainRequest; about = interface; wants = None; first = 0; second = 0 }
 
 abbrev requests_on : ℕ → Meaning
-requests_on k = record { class = PlainRequest; about = endpoint; wants = some k; first = 0; second = 0 }
+requests_on k = record { class = PlainRequest; about = endpoint; wants = Some k; first = 0; second = 0 }
 
 abbrev requests_mask : ℕ → Meaning
-requests_mask k = record { class = PlainRequest; about = mask; wants = some k; first = 0; second = 0 }
+requests_mask k = record { class = PlainRequest; about = mask; wants = Some k; first = 0; second = 0 }
 
 -- a reply to requests of these two kinds
 abbrev answers : About → ℕ → ℕ → Meaning
-answers a m n = record { class = PlainReply; about = a; wants = none; first = m; second = n }
+answers a m n = record { class = PlainReply; about = a; wants = None; first = m; second = n }
 
 -- a status of streams of this type, to a start or a stop
 abbrev reports : ℕ → ℕ → ℕ → Meaning
-reports k start stop = record { class = StreamStatus; about = endpoint; wants = some k; first = start; second = stop }
+reports k start stop = record { class = StreamStatus; about = endpoint; wants = Some k; first = start; second = stop }
 
 -- data on a stream of this type, from the guest and from the host
 abbrev streams_out : ℕ → Meaning
-streams_out k = record { class = StreamOut; about = endpoint; wants = some k; first = 0; second = 0 }
+streams_out k = record { class = StreamOut; about = endpoint; wants = Some k; first = 0; second = 0 }
 
 abbrev streams_in : ℕ → Meaning
-streams_in k = record { class = StreamIn; about = endpoint; wants = some k; first = 0; second = 0 }
+streams_in k = record { class = StreamIn; about = endpoint; wants = Some k; first = 0; second = 0 }
 
 -- whose packets of a kind have the meaning: of whoever may send it, or of one end, or of the host on an endpoint of one direction
 pub data Who : Type 0 where

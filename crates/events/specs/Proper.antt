@@ -4,7 +4,7 @@
 -- that for a packet without a line, holds of the meaning that `look_up` finds (`found`): a test over the lines of the table.
 -- Assumes nothing.
 use Rattle.std.specs.Prelude.{ℕ, ◌≤◌, ◌≡◌, refl, Bool, true, false, cond, not, ◌&&◌, ◌||◌, List, [], ◌∷◌, ◌⊎◌, eqb, leb}
-use Rattle.std.proofs.Common.{ap, inl, inr, arith, leb-true, eqb-true}
+use Rattle.std.proofs.Common.{inl, inr, arith, leb-true, eqb-true}
 use Rattle.std.proofs.lemmas.Bool.{false≢true, eqb-false}
 use borrow.Table.Steps.{cases}
 use Rattle.octets.proofs.Logic.{and_parts, implied}

@@ -121,52 +121,42 @@ fn answers_plainly(
 ) -> Case
     ensures { result ≡ cases.Answers (record { told = record { id = id; kind = kind; target = target; length = 0 }; answers = record { first = first; second = second; targeted = targeted }; status = status }) Untyped false }
 {
-    let told = Request {
-        id,
-        kind,
-        target,
-        length: 0,
-    };
-    let answers = Answerable {
-        first,
-        second,
-        targeted,
-    };
-    Case::Answers(
-        Reply {
-            told,
-            answers,
-            status,
+    let reply = Reply {
+        told: Request {
+            id,
+            kind,
+            target,
+            length: 0,
         },
-        Typed::Untyped,
-        false,
-    )
+        answers: Answerable {
+            first,
+            second,
+            targeted,
+        },
+        status,
+    };
+    Case::Answers(reply, Typed::Untyped, false)
 }
 
 // A status of a stream of this type, to a start or a stop.
 fn reports_stream(kind: u8, id: u64, e: Endpoint, ty: u8, status: u8, start: u8, stop: u8) -> Case
     ensures { result ≡ cases.Answers (record { told = record { id = id; kind = kind; target = e.0; length = 0 }; answers = record { first = start; second = stop; targeted = true }; status = status }) (OfEndpoint e ty) true }
 {
-    let told = Request {
-        id,
-        kind,
-        target: e.0,
-        length: 0,
-    };
-    let answers = Answerable {
-        first: start,
-        second: stop,
-        targeted: true,
-    };
-    Case::Answers(
-        Reply {
-            told,
-            answers,
-            status,
+    let reply = Reply {
+        told: Request {
+            id,
+            kind,
+            target: e.0,
+            length: 0,
         },
-        Typed::OfEndpoint(e, ty),
-        true,
-    )
+        answers: Answerable {
+            first: start,
+            second: stop,
+            targeted: true,
+        },
+        status,
+    };
+    Case::Answers(reply, Typed::OfEndpoint(e, ty), true)
 }
 
 // Data that the guest sends is a request on an endpoint of this type; from the host it is the reply to one.
@@ -203,10 +193,7 @@ pub fn case_of(from: Side, id: u64, p: Packet, body: &[u8]) -> Case
     ensures { Shows from id p body.now result }
 {
     match p {
-        Packet::Hello(x) => {
-            let words = x.words;
-            Case::Hello(get32(part_of(body, words), 0))
-        }
+        Packet::Hello(x) => Case::Hello(get32(part_of(body, x.words), 0)),
         Packet::Connect(_) => Case::Connect,
         Packet::Disconnect => Case::Disconnect,
         Packet::Reset => Case::Reset,
@@ -218,30 +205,12 @@ pub fn case_of(from: Side, id: u64, p: Packet, body: &[u8]) -> Case
         Packet::SetAlt(x) => asks_plainly(9, id, x.interface),
         Packet::GetAlt(x) => asks_plainly(10, id, x.interface),
         Packet::AltStatus(x) => answers_plainly(11, id, x.interface, x.status, 9, 10, true),
-        Packet::StartIso(x) => {
-            let endpoint = x.endpoint;
-            asks_stream(12, id, endpoint, 1, true)
-        }
-        Packet::StopIso(x) => {
-            let endpoint = x.endpoint;
-            asks_stream(13, id, endpoint, 1, false)
-        }
-        Packet::IsoStatus(x) => {
-            let endpoint = x.endpoint;
-            reports_stream(14, id, endpoint, 1, x.status, 12, 13)
-        }
-        Packet::StartInterrupt(x) => {
-            let endpoint = x.endpoint;
-            asks_stream(15, id, endpoint, 3, true)
-        }
-        Packet::StopInterrupt(x) => {
-            let endpoint = x.endpoint;
-            asks_stream(16, id, endpoint, 3, false)
-        }
-        Packet::InterruptStatus(x) => {
-            let endpoint = x.endpoint;
-            reports_stream(17, id, endpoint, 3, x.status, 15, 16)
-        }
+        Packet::StartIso(x) => asks_stream(12, id, x.endpoint, 1, true),
+        Packet::StopIso(x) => asks_stream(13, id, x.endpoint, 1, false),
+        Packet::IsoStatus(x) => reports_stream(14, id, x.endpoint, 1, x.status, 12, 13),
+        Packet::StartInterrupt(x) => asks_stream(15, id, x.endpoint, 3, true),
+        Packet::StopInterrupt(x) => asks_stream(16, id, x.endpoint, 3, false),
+        Packet::InterruptStatus(x) => reports_stream(17, id, x.endpoint, 3, x.status, 15, 16),
         Packet::AllocStreams(x) => asks_mask(18, id, x.mask),
         Packet::FreeStreams(x) => asks_mask(19, id, x.mask),
         Packet::StreamsStatus(x) => answers_plainly(20, id, 0, x.status, 18, 19, false),
@@ -249,44 +218,26 @@ pub fn case_of(from: Side, id: u64, p: Packet, body: &[u8]) -> Case
         Packet::FilterReject => Case::Filter,
         Packet::Filter(_) => Case::Filter,
         Packet::DisconnectAck => Case::Ack,
-        Packet::StartBulkReceiving(x) => {
-            let endpoint = x.endpoint;
-            asks_stream(25, id, endpoint, 2, true)
-        }
-        Packet::StopBulkReceiving(x) => {
-            let endpoint = x.endpoint;
-            asks_stream(26, id, endpoint, 2, false)
-        }
-        Packet::BulkReceivingStatus(x) => {
-            let endpoint = x.endpoint;
-            reports_stream(27, id, endpoint, 2, x.status, 25, 26)
-        }
-        Packet::Control(x) => {
-            let endpoint = x.endpoint;
-            transfer(from, 100, id, endpoint, 0, x.length as u32, x.status)
-        }
-        Packet::Bulk(x) => {
-            let endpoint = x.endpoint;
-            transfer(from, 101, id, endpoint, 2, x.length, x.status)
-        }
+        Packet::StartBulkReceiving(x) => asks_stream(25, id, x.endpoint, 2, true),
+        Packet::StopBulkReceiving(x) => asks_stream(26, id, x.endpoint, 2, false),
+        Packet::BulkReceivingStatus(x) => reports_stream(27, id, x.endpoint, 2, x.status, 25, 26),
+        Packet::Control(x) => transfer(from, 100, id, x.endpoint, 0, u32::from(x.length), x.status),
+        Packet::Bulk(x) => transfer(from, 101, id, x.endpoint, 2, x.length, x.status),
         Packet::Iso(x) => {
-            let endpoint = x.endpoint;
             if is_guest(from) {
-                return Case::StreamsOut(endpoint, 1, true);
+                Case::StreamsOut(x.endpoint, 1, true)
+            } else {
+                Case::StreamsIn(x.endpoint, 1, id)
             }
-            Case::StreamsIn(endpoint, 1, id)
         }
         Packet::Interrupt(x) => {
-            let endpoint = x.endpoint;
-            if !is_guest(from) & is_in(endpoint) {
-                return Case::StreamsIn(endpoint, 3, id);
+            if !is_guest(from) & is_in(x.endpoint) {
+                Case::StreamsIn(x.endpoint, 3, id)
+            } else {
+                transfer(from, 103, id, x.endpoint, 3, u32::from(x.length), x.status)
             }
-            transfer(from, 103, id, endpoint, 3, x.length as u32, x.status)
         }
-        Packet::BufferedBulk(x) => {
-            let endpoint = x.endpoint;
-            Case::StreamsIn(endpoint, 2, id)
-        }
+        Packet::BufferedBulk(x) => Case::StreamsIn(x.endpoint, 2, id),
     }
 }
 
@@ -295,12 +246,10 @@ fn rows_of(body: &[u8], t: EndpointTable) -> Rows
     ensures { result ≡ announced_in (layout 5) (columns_in (columns_of t.maxpacket t.maxstreams) (layout 5) (in_part t.rows body.now)) }
 {
     let mut out = start_rows();
-    let mut i: usize = 0;
-    while i < 32 {
+    for i in 0..32 {
         let r = endpoint_row(body, t, Row(i as u8));
         out.types[i] = r.ty;
         out.interfaces[i] = r.interface;
-        i += 1;
     }
     out
 }

@@ -20,8 +20,7 @@ use Rattle.header.specs.Link.{id_width}
 use Rattle.header.proofs.Widths.{id-widths}
 use Rattle.header.specs.Header.{kind_of, length_of, header_size, header_number}
 use Rattle.frame.specs.Cut.{cut_of}
-use Rattle.frame.specs.declared.Cut.TheVariants.{More, BadHeader, WholePacket}
-use Rattle.frame.specs.Frame.{head_size, head_number, cut_for, completed}
+use Rattle.frame.specs.Frame.{more_bytes, bad_header, whole_packet, head_size, head_number, cut_for, completed}
 
 module _ (l : Link) (a b : List ℕ) (kind len w : ℕ) (ek : kind ≡ kind_of (a ++ b)) (el : len ≡ length_of (a ++ b)) (ew : w ≡ id_width l kind) where
   size_is : head_size l (a ++ b) ≡ 8 + w
@@ -31,7 +30,7 @@ module _ (l : Link) (a b : List ℕ) (kind len w : ℕ) (ek : kind ≡ kind_of (
   number_is : (n : ℕ) → n ≡ header_number l kind len → head_number l (a ++ b) ≡ n
   number_is n en = ap₂ (header_number l) (sym ek) (sym el) ∙ sym en
 
-  pub cut_short : length b < 8 + w - length a → More ≡ cut_for l (a ++ b)
+  pub cut_short : length b < 8 + w - length a → more_bytes ≡ cut_for l (a ++ b)
   unfolding cut_for cut_of
   cut_short h =
       let g : length (a ++ b) < head_size l (a ++ b) = omega (arith, size_is, length-append a b) in
@@ -41,12 +40,12 @@ module _ (l : Link) (a b : List ℕ) (kind len w : ℕ) (ek : kind ≡ kind_of (
     header : head_size l (a ++ b) ≤ length (a ++ b)
     header = omega (arith, size_is, length-append a b)
 
-    pub cut-refused : (n ≡ 0 → ⊥) → BadHeader n (8 + w) ≡ cut_for l (a ++ b)
+    pub cut-refused : (n ≡ 0 → ⊥) → bad_header n (8 + w) ≡ cut_for l (a ++ b)
     unfolding cut_for cut_of
     cut-refused z =
         let t = le-ltb (length (a ++ b)) (head_size l (a ++ b)) header in
         let q : eqb (head_number l (a ++ b)) 0 ≡ false = ne_eqb (head_number l (a ++ b)) 0 (λ e. z (sym (number_is n en) ∙ e)) in
-        rw (t, q) (ap₂ BadHeader (sym (number_is n en)) (sym size_is))
+        rw (t, q) (ap₂ bad_header (sym (number_is n en)) (sym size_is))
 
     module _ (z : n ≡ 0) where
       zero_is : eqb (head_number l (a ++ b)) 0 ≡ true
@@ -55,19 +54,19 @@ module _ (l : Link) (a b : List ℕ) (kind len w : ℕ) (ek : kind ≡ kind_of (
       whole_is : head_size l (a ++ b) + length_of (a ++ b) ≡ 8 + w + len
       whole_is = ap₂ (λ (x y : ℕ). x + y) size_is (sym el)
 
-      pub cut-part : length b < 8 + w + len - length a → More ≡ cut_for l (a ++ b)
+      pub cut-part : length b < 8 + w + len - length a → more_bytes ≡ cut_for l (a ++ b)
       unfolding cut_for cut_of
       cut-part g =
           let t = le-ltb (length (a ++ b)) (head_size l (a ++ b)) header in
           let k : length (a ++ b) < head_size l (a ++ b) + length_of (a ++ b) = omega (arith, whole_is, length-append a b) in
           rw (t, zero_is, lt-ltb (length (a ++ b)) (head_size l (a ++ b) + length_of (a ++ b)) k)
 
-      pub cut-full : 8 + w + len - length a ≤ length b → WholePacket kind (8 + w) (8 + w + len) ≡ cut_for l (a ++ b)
+      pub cut-full : 8 + w + len - length a ≤ length b → whole_packet kind (8 + w) (8 + w + len) ≡ cut_for l (a ++ b)
       unfolding cut_for cut_of
       cut-full g =
           let t = le-ltb (length (a ++ b)) (head_size l (a ++ b)) header in
           let k : head_size l (a ++ b) + length_of (a ++ b) ≤ length (a ++ b) = omega (arith, whole_is, length-append a b) in
-          rw (t, zero_is, le-ltb (length (a ++ b)) (head_size l (a ++ b) + length_of (a ++ b)) k) (λ i. WholePacket (ek i) (sym size_is i) (sym whole_is i))
+          rw (t, zero_is, le-ltb (length (a ++ b)) (head_size l (a ++ b) + length_of (a ++ b)) k) (λ i. whole_packet (ek i) (sym size_is i) (sym whole_is i))
 
 -- past a, a number of b
 pub le-beyond : (n : ℕ) (a b : List ℕ) (at : ℕ) → length a ≤ at → le n b (at - length a) ≡ le n (a ++ b) at

@@ -19,20 +19,19 @@ use Rattle.header.specs.Link.{id_width}
 use Rattle.header.specs.Header.{kind_of, length_of, header_of, header_size, header_number}
 use Rattle.header.proofs.Widths.{id-widths, wide}
 use Rattle.frame.specs.Cut.{Cut, more, bad, whole, cut_of}
-use Rattle.frame.specs.declared.Cut.TheVariants.{More, BadHeader, WholePacket}
-use Rattle.frame.specs.Frame.{Cuts, head_size, head_number, cut_at, cut_told, cut_for}
+use Rattle.frame.specs.Frame.{more_bytes, bad_header, whole_packet, Cuts, head_size, head_number, cut_at, cut_told, cut_for}
 
-found-more : (k w : ℕ) (c : Cut) → cut_told k w c ≡ More → c ≡ more
+found-more : (k w : ℕ) (c : Cut) → cut_told k w c ≡ more_bytes → c ≡ more
 found-more k w more e = refl
 found-more k w (bad n) e = let z : ◌≡◌ {A = ℕ} 0 1 = cc in absurd (omega arith)
 found-more k w (whole n) e = let z : ◌≡◌ {A = ℕ} 0 1 = cc in absurd (omega arith)
 
-found-bad : (k w : ℕ) (c : Cut) (n size : ℕ) → cut_told k w c ≡ BadHeader n size → (c ≡ bad n) × (w ≡ size)
+found-bad : (k w : ℕ) (c : Cut) (n size : ℕ) → cut_told k w c ≡ bad_header n size → (c ≡ bad n) × (w ≡ size)
 found-bad k w more n size e = let z : ◌≡◌ {A = ℕ} 0 1 = cc in absurd (omega arith)
 found-bad k w (bad m) n size e = let p : m ≡ n = cc in let q : w ≡ size = cc in (ap bad p, q)
 found-bad k w (whole m) n size e = let z : ◌≡◌ {A = ℕ} 0 1 = cc in absurd (omega arith)
 
-found-whole : (k w : ℕ) (c : Cut) (kind size n : ℕ) → cut_told k w c ≡ WholePacket kind size n → (c ≡ whole n) × ((k ≡ kind) × (w ≡ size))
+found-whole : (k w : ℕ) (c : Cut) (kind size n : ℕ) → cut_told k w c ≡ whole_packet kind size n → (c ≡ whole n) × ((k ≡ kind) × (w ≡ size))
 found-whole k w more kind size n e = let z : ◌≡◌ {A = ℕ} 0 1 = cc in absurd (omega arith)
 found-whole k w (bad m) kind size n e = let z : ◌≡◌ {A = ℕ} 0 1 = cc in absurd (omega arith)
 found-whole k w (whole m) kind size n e =
@@ -42,15 +41,15 @@ found-whole k w (whole m) kind size n e =
     (ap whole p, (q, r))
 
 module _ (l : Link) (all : List ℕ) where
-  pub cut-more : cut_for l all ≡ More → cut_at l all ≡ more
+  pub cut-more : cut_for l all ≡ more_bytes → cut_at l all ≡ more
   unfolding cut_for
   cut-more e = found-more (kind_of all) (head_size l all) (cut_at l all) e
 
-  pub cut-bad : {n size : ℕ} → cut_for l all ≡ BadHeader n size → (cut_at l all ≡ bad n) × (head_size l all ≡ size)
+  pub cut-bad : {n size : ℕ} → cut_for l all ≡ bad_header n size → (cut_at l all ≡ bad n) × (head_size l all ≡ size)
   unfolding cut_for
   cut-bad {n} {size} e = found-bad (kind_of all) (head_size l all) (cut_at l all) n size e
 
-  pub cut-whole : {kind size n : ℕ} → cut_for l all ≡ WholePacket kind size n → Cuts l all kind size n
+  pub cut-whole : {kind size n : ℕ} → cut_for l all ≡ whole_packet kind size n → Cuts l all kind size n
   unfolding cut_for
   cut-whole {kind} {size} {n} e =
       let f = found-whole (kind_of all) (head_size l all) (cut_at l all) kind size n e in

@@ -3,9 +3,10 @@
 use Rattle.std.specs.Prelude.{ℕ, ◌-◌, ◌≡◌, Bool, true, false, cond, List, [], take, eqb, leb}
 use Rattle.std.proofs.lemmas.List.Edits.{sets}
 use Rattle.header.specs.declared.Link.{Link}
+use Rattle.header.specs.Refusal.{number_of}
 use Rattle.header.specs.Header.{kind_of, length_of, header_size, header_number}
 use Rattle.frame.specs.Cut.{Cut, more, bad, whole, cut_of}
-use Rattle.frame.specs.declared.Cut.{Cut as CutTold}
+use Rattle.frame.specs.declared.Cut.{Cut as CutFound}
 use Rattle.frame.specs.declared.Cut.TheVariants.{More, BadHeader, WholePacket}
 use Rattle.frame.specs.declared.Location.{Location}
 use Rattle.frame.specs.declared.Location.TheVariants.{Nowhere, Piece, Buffer}
@@ -22,20 +23,30 @@ head_number l b = header_number l (kind_of b) (length_of b)
 abbrev pub cut_at : Link → List ℕ → Cut
 cut_at l all = cut_of (head_size l) (head_number l) length_of all
 
--- the code's answer for it: a refused header comes with its size, a whole packet with its kind too
+-- what the code tells of it: a refused header by its number and its size, a whole packet with its kind and its header's size too
+pub data CutTold : Type 0 where
+  more_bytes : CutTold
+  bad_header : ℕ → ℕ → CutTold
+  whole_packet : ℕ → ℕ → ℕ → CutTold
+
+abbrev pub told : CutFound → CutTold
+told More = more_bytes
+told (BadHeader refusal size) = bad_header (number_of refusal) size
+told (WholePacket kind header size) = whole_packet kind header size
+
 abbrev pub cut_told : ℕ → ℕ → Cut → CutTold
-cut_told kind size more = More
-cut_told kind size (bad n) = BadHeader n size
-cut_told kind size (whole n) = WholePacket kind size n
+cut_told kind size more = more_bytes
+cut_told kind size (bad n) = bad_header n size
+cut_told kind size (whole n) = whole_packet kind size n
 
 unfoldable pub cut_for : Link → List ℕ → CutTold
 cut_for l all = cut_told (kind_of all) (head_size l all) (cut_at l all)
 
 -- the packet, or the header that is refused, is whole within the first n bytes
 abbrev pub ends_within : CutTold → ℕ → Bool
-ends_within More n = false
-ends_within (BadHeader m size) n = leb size n
-ends_within (WholePacket kind size m) n = leb m n
+ends_within more_bytes n = false
+ends_within (bad_header m size) n = leb size n
+ends_within (whole_packet kind size m) n = leb m n
 
 abbrev pub is_more : Cut → Bool
 is_more more = true

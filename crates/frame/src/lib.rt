@@ -1,19 +1,20 @@
-// Framing: what the held bytes with a piece behind them are, what of the piece goes into the holding buffer, and where a packet lies.
+// Framing: what the held bytes with a piece behind them are, what of the piece goes into the holding buffer, and
+// where a packet lies.
 #![tactic(auto)]
 
 ghost use Rattle.std.specs.Prelude.{◌≡◌, ◌++◌, ◌-◌, ◌<◌, ◌≤◌, get_or};
 ghost use Rattle.octets.specs.Little.{le};
-ghost use Rattle.frame.specs.Frame.{cut_for, ends_within, completed, location_for, bytes_at};
+ghost use Rattle.frame.specs.Frame.{told, cut_for, ends_within, completed, location_for, bytes_at};
 
-use header::{Link, header_number, id_width};
-use octets::{get32, lay, part, saturating_sub, wide};
+use header::{Link, Refusal, check_header, id_width};
+use octets::{get32, lay, part};
 
-// What bytes are, counted from a packet's first byte: not a whole packet yet; a header that is refused, with its number and its
-// size; or a whole packet, with its kind, the size of its header and its own.
+// What bytes are, counted from a packet's first byte: not a whole packet yet; a header that is refused, with why and
+// its size; or a whole packet, with its kind, the size of its header and its own.
 #[derive(Clone, Copy)]
 pub enum Cut {
     More,
-    BadHeader(u8, usize),
+    BadHeader(Refusal, usize),
     WholePacket(u32, usize, usize),
 }
 
@@ -29,11 +30,10 @@ pub enum Location {
 fn byte_across(a: &[u8], b: &[u8], i: usize) -> u8
     ensures { result ≡ get_or (a.now ++ b.now) i 0 }
 {
-    if i < a.len() {
-        return a[i];
+    match i.checked_sub(a.len()) {
+        Some(j) => b.get(j).copied().unwrap_or(0),
+        None => a[i],
     }
-    let j = i - a.len();
-    if j < b.len() { b[j] } else { 0 }
 }
 
 // The number that four bytes of a with b behind it spell from `at` on. All four mostly lie in one of the two.
@@ -47,29 +47,25 @@ fn get32_across(a: &[u8], b: &[u8], at: usize) -> u32
     if at + 4 <= a.len() {
         return get32(a, at);
     }
-    let b0 = wide(byte_across(a, b, at));
-    let b1 = wide(byte_across(a, b, at + 1));
-    let b2 = wide(byte_across(a, b, at + 2));
-    let b3 = wide(byte_across(a, b, at + 3));
-    b0 + 256 * (b1 + 256 * (b2 + 256 * b3))
+    let byte = |k: usize| byte_across(a, b, at + k);
+    u32::from_le_bytes([byte(0), byte(1), byte(2), byte(3)])
 }
 
 // What the held bytes are with the piece behind them.
 pub fn cut_of(l: Link, held: &[u8], piece: &[u8]) -> Cut
-    ensures { result ≡ cut_for l (held.now ++ piece.now) }
+    ensures { told result ≡ cut_for l (held.now ++ piece.now) }
 {
     let kind = get32_across(held, piece, 0);
     let length = get32_across(held, piece, 4) as usize;
     let header = 8 + id_width(l, kind);
-    if piece.len() < saturating_sub(header, held.len()) {
+    if piece.len() < header.saturating_sub(held.len()) {
         return Cut::More;
     }
-    let number = header_number(l, kind, length);
-    if number != 0 {
-        return Cut::BadHeader(number, header);
+    if let Err(refusal) = check_header(l, kind, length) {
+        return Cut::BadHeader(refusal, header);
     }
     let size = header + length;
-    if piece.len() < saturating_sub(size, held.len()) {
+    if piece.len() < size.saturating_sub(held.len()) {
         return Cut::More;
     }
     Cut::WholePacket(kind, header, size)
@@ -77,12 +73,11 @@ pub fn cut_of(l: Link, held: &[u8], piece: &[u8]) -> Cut
 
 // The packet, or the header that is refused, is whole within the first n bytes.
 pub fn ends_within(c: Cut, n: usize) -> bool
-    ensures { result ≡ ends_within c n }
+    ensures { result ≡ ends_within (told c) n }
 {
     match c {
         Cut::More => false,
-        Cut::BadHeader(_, size) => size <= n,
-        Cut::WholePacket(_, _, size) => size <= n,
+        Cut::BadHeader(_, size) | Cut::WholePacket(_, _, size) => size <= n,
     }
 }
 
@@ -97,11 +92,12 @@ pub fn location_of(held: usize) -> Location
     }
 }
 
-// Completes what was begun in the buffer to `size` bytes; what lies whole in the piece is not copied. The bytes taken of the piece.
+// Completes what was begun in the buffer to `size` bytes; what lies whole in the piece is not copied. The bytes
+// taken of the piece.
 pub fn complete(hold: &mut [u8], held: usize, piece: &[u8], size: usize) -> usize
     ensures { (result ≡ size - held) × (hold.new ≡ completed hold.old held piece.now size) }
 {
-    let taken = saturating_sub(size, held);
+    let taken = size.saturating_sub(held);
     if held != 0 {
         lay(hold, held, part(piece, 0, taken));
     }

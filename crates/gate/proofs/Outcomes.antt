@@ -1,14 +1,14 @@
 -- What a decision of the code comes to, case by case, is what `offer_of` gives: a call that is barred (`barred-call`), more wanted
--- (`more-call`), a refused header (`header-call`), a whole packet that the wire checks refuse (`refused-call`), that is ruled on (`ruled-call`), and that is
--- ruled out (`ruled-out-call`).
+-- (`more-call`), a refused header (`header-call`), a whole packet that the wire checks refuse (`refused-call`), and one that is ruled on
+-- (`ruled-call`); and that a decision carried out is the call (`carried`).
 -- The first three compute. The bytes of a whole packet are the first of the held bytes with the piece behind them by `lies`, and their header is the
 -- one that was read with the cut. Its verdict is that of `Judge`: no two live requests have one id, since 43 let the session through.
 -- Assumes nothing.
+use Rattle.std.specs.Prelude.{None, Result, Ok, Err, Some}
 use Prim.Native.Nat.{ℕ, ◌+◌, ◌-◌}
 use mathlib.Core.Path.{◌≡◌, refl, sym, ap, ◌∙◌}
-use mathlib.Core.Bool.{Bool, true, false, cond, ◌||◌, or-true, or-false, true≢false}
+use mathlib.Core.Bool.{Bool, true, false, cond, ◌||◌, or-true, or-false}
 use mathlib.Core.List.{List, ◌++◌}
-use mathlib.Core.Option.{none}
 use lib.ListN.{length, take, drop}
 use lib.Seq.{sets}
 use lib.Dec.{eqb}
@@ -17,18 +17,19 @@ use Rattle.header.specs.declared.Side.{Side}
 use Rattle.header.specs.declared.Side.TheVariants.{Guest, Host}
 use Rattle.header.specs.declared.Header.{Header}
 use Rattle.header.specs.Header.{kind_of}
+use Rattle.header.specs.declared.Refusal.{Refusal}
+use Rattle.header.specs.Refusal.{number_of}
 use Rattle.packet.specs.declared.Packet.{Packet}
-use Rattle.decoder.specs.declared.Reading.TheVariants.{Refused as Unread, Decoded as Read}
 use Rattle.decoder.specs.Reading.{told, read_of}
 use Rattle.decoder.proofs.Decoded.{refusing, passing}
 use Rattle.device.specs.declared.Head.{Head}
 use Rattle.events.specs.declared.Case.{Case}
 use Rattle.events.specs.declared.Case.TheVariants as cases
 use Rattle.events.specs.Event.{Shows}
+use Rattle.checks.specs.declared.Change.{Change}
 use Rattle.checks.specs.declared.Change.TheVariants.{NoChange}
-use Rattle.checks.specs.declared.Ruling.{Ruling}
-use Rattle.checks.specs.declared.Ruling.TheVariants.{Denied, Granted, Pending}
-use Rattle.checks.specs.Ruled.{settled, ruled}
+use Rattle.checks.specs.Change.{numbered}
+use Rattle.checks.specs.Ruled.{ruled}
 use Rattle.session.specs.declared.Session.{Session}
 use Rattle.session.specs.Session.{link_of, held_in, held_to}
 use Rattle.session.specs.Step.{applied}
@@ -39,12 +40,11 @@ use Rattle.frame.specs.Frame.{head_size, cut_at, completed, location_for, bytes_
 use Rattle.frame.specs.Frame.{Cuts}
 use Rattle.frame.proofs.Framed.{framed}
 use Rattle.gate.specs.declared.Decided.{Decided}
-use Rattle.gate.specs.declared.Handed.TheVariants.{OnePacket}
 use Rattle.gate.specs.Verdict.{held_as, stopped_now, refused_as, VerdictTold, verdict_of, handed_as}
 use Rattle.gate.specs.Verdict.{ruled_as}
 use Rattle.gate.proofs.Judge.{verdict-refused, case-is, verdict-ruled}
-use Rattle.gate.specs.Offer.{held_bytes, barred, header_refused, packet_taken, by_cut, offer_of, WholeHere}
-use Rattle.gate.specs.Decide.{ended_with, passed_with, concluded_by, concluded, rows_in, outcome_by, unrefused, packet_ruling, ruling_by_cut, ruling_at, Decides}
+use Rattle.gate.specs.Offer.{held_bytes, barred, header_refused, packet_taken, by_cut, offer_of, outcome, WholeHere}
+use Rattle.gate.specs.Decide.{ended_with, passed_with, rows_in, session_after, outcome_by, change_in, packet_change, change_by_cut, change_at, Decides}
 use Rattle.gate.proofs.Ready.{lies, whole_here, not-barred, held-few, fit_is}
 use Rattle.gate.specs.Ready.{Ready}
 
@@ -73,19 +73,18 @@ same-ruled from n s (cases.StreamsIn e ty id) = refl
 module _ (from : Side) (s : Session) (hold piece : List ℕ) where
   -- a call by which no packet passes
   ends : {n taken size held : ℕ} {location : Location} {stopped : Bool} {after : List ℕ} → outcome_by from s (ended_with n taken location size held stopped) piece after ≡ offer_of from s hold piece
-      → ruling_at from s hold piece ≡ Granted NoChange → Decides from s (ended_with n taken location size held stopped) hold piece after
-  unfolding concluded
-  ends e u = record { comes = e; ruling = sym u; told = λ w. absurd (true≢false (sym w)) }
+      → change_at from s hold piece ≡ NoChange → Decides from s (ended_with n taken location size held stopped) hold piece after
+  ends e u = record { comes = e; change = sym u }
 
   -- 41, 43, 3, 2: nothing is taken or changed
   pub barred-call : (n : ℕ) → n ≡ barred from s hold → (n ≡ 0 → ⊥) → Decides from s (ended_with n 0 Nowhere 0 (held_in from s.head) s.head.stopped) hold piece hold
-  unfolding outcome_by offer_of applied ruling_at
+  unfolding outcome_by offer_of applied change_at
   barred-call n e z = ends outcome-is (rw (← e, ne_eqb n 0 z))
     where
       outcome-is : outcome_by from s (ended_with n 0 Nowhere 0 (held_in from s.head) s.head.stopped) piece hold ≡ offer_of from s hold piece
       outcome-is =
           rw (← e, ne_eqb n 0 z)
-          (ap (λ (h : Head). record { session = record { head = h; rows = s.rows; requests = s.requests; watch = s.watch }; number = n; taken = 0; location = Nowhere; size = 0; handed = none; hold = hold }) (held_same from s.head))
+          (ap (λ (h : Head). record { session = record { head = h; rows = s.rows; requests = s.requests; watch = s.watch }; number = n; taken = 0; location = Nowhere; size = 0; handed = None; hold = hold }) (held_same from s.head))
 
   module _ (r : Ready from s hold) where
     -- what the bytes are decides
@@ -93,22 +92,22 @@ module _ (from : Side) (s : Session) (hold piece : List ℕ) where
     unfolding offer_of
     goes = rw (not-barred from s hold r)
 
-    ruling-goes : ruling_at from s hold piece ≡ ruling_by_cut from s (held_bytes from s hold ++ piece) (cut_at (link_of from s) (held_bytes from s hold ++ piece))
-    unfolding ruling_at
-    ruling-goes = rw (not-barred from s hold r)
+    change-goes : change_at from s hold piece ≡ change_by_cut from s (held_bytes from s hold ++ piece) (cut_at (link_of from s) (held_bytes from s hold ++ piece))
+    unfolding change_at
+    change-goes = rw (not-barred from s hold r)
 
     -- 1
     pub more-call : cut_at (link_of from s) (held_bytes from s hold ++ piece) ≡ more
         → Decides from s (ended_with 1 (length piece) Nowhere 0 (held_in from s.head + length piece) s.head.stopped) hold piece (sets hold (held_in from s.head) piece)
     unfolding outcome_by applied
-    more-call c = ends (sym (goes ∙ ap (by_cut from s hold piece) c)) (ruling-goes ∙ ap (ruling_by_cut from s (held_bytes from s hold ++ piece)) c)
+    more-call c = ends (sym (goes ∙ ap (by_cut from s hold piece) c)) (change-goes ∙ ap (change_by_cut from s (held_bytes from s hold ++ piece)) c)
 
     -- 10, 11, 12
     pub header-call : (n : ℕ) → cut_at (link_of from s) (held_bytes from s hold ++ piece) ≡ bad n → (size : ℕ) → head_size (link_of from s) (held_bytes from s hold ++ piece) ≡ size
         → Decides from s (ended_with n (size - held_in from s.head) (location_for (held_in from s.head)) size 0 true) hold piece (completed hold (held_in from s.head) piece size)
     unfolding outcome_by applied
     header-call n c size w =
-        ends (sym (goes ∙ ap (by_cut from s hold piece) c ∙ ap (header_refused from s hold piece n) w)) (ruling-goes ∙ ap (ruling_by_cut from s (held_bytes from s hold ++ piece)) c)
+        ends (sym (goes ∙ ap (by_cut from s hold piece) c ∙ ap (header_refused from s hold piece n) w)) (change-goes ∙ ap (change_by_cut from s (held_bytes from s hold ++ piece)) c)
 
     -- a whole packet
     module _ {kind head size : ℕ} (c : Cuts (link_of from s) (held_bytes from s hold ++ piece) kind head size) where
@@ -128,63 +127,66 @@ module _ (from : Side) (s : Session) (hold piece : List ℕ) where
       taken_is : offer_of from s hold piece ≡ packet_taken from s hold piece (verdict_of (held_as from 0 s) from bytes) size
       taken_is = goes ∙ ap (by_cut from s hold piece) c.cut
 
-      ruling-is : ruling_at from s hold piece ≡ packet_ruling from s bytes
-      ruling-is = ruling-goes ∙ ap (ruling_by_cut from s (held_bytes from s hold ++ piece)) c.cut
+      change-is : change_at from s hold piece ≡ packet_change from s bytes
+      change-is = change-goes ∙ ap (change_by_cut from s (held_bytes from s hold ++ piece)) c.cut
 
       -- "10 to 24": a refused hello stops the session
       refused-session : (b : Bool) → cond b (stopped_now (held_as from 0 s)) (held_as from 0 s) ≡ record { head = held_to from 0 (s.head.stopped || b) s.head; rows = s.rows; requests = s.requests; watch = s.watch }
       refused-session true = rw (or-true s.head.stopped)
       refused-session false = rw (or-false s.head.stopped)
 
-      pub refused-call : {n : ℕ} → told (link_of from s) bytes (Unread n) ≡ read_of (link_of from s) bytes
-          → Decides from s (ended_with n (size - held_in from s.head) (location_for (held_in from s.head)) size 0 (s.head.stopped || eqb kind 0)) hold piece after
+      pub refused-call : (v : Refusal) → told (link_of from s) bytes (Err v) ≡ read_of (link_of from s) bytes
+          → Decides from s (ended_with (number_of v) (size - held_in from s.head) (location_for (held_in from s.head)) size 0 (s.head.stopped || eqb kind 0)) hold piece after
       unfolding outcome_by applied
-      refused-call {n} t =
+      refused-call v t =
           let k : kind_of bytes ≡ kind = (framed (link_of from s) (held_bytes from s hold ++ piece) c).kind in
           let w : refused_as (held_as from 0 s) (kind_of bytes) ≡ record { head = held_to from 0 (s.head.stopped || eqb kind 0) s.head; rows = s.rows; requests = s.requests; watch = s.watch } = rw k (refused-session (eqb kind 0)) in
           ends
           (sym
           (taken_is
-          ∙ ap (λ (x : VerdictTold). packet_taken from s hold piece x size) (verdict-refused (held_as from 0 s) from bytes t)
-          ∙ ap (λ (x : Session). packet_taken from s hold piece (record { session = x; number = n; handed = none }) size) w))
-          (ruling-is ∙ rw (refusing t refl).nonzero refl)
+          ∙ ap (λ (x : VerdictTold). packet_taken from s hold piece x size) (verdict-refused (held_as from 0 s) from bytes v t)
+          ∙ ap (λ (x : Session). packet_taken from s hold piece (record { session = x; number = number_of v; handed = None }) size) w))
+          (change-is ∙ rw (refusing t refl).nonzero refl)
 
       -- a packet that came out of the wire checks
-      module _ (h : Header) (p : Packet) (t : told (link_of from s) bytes (Read h p) ≡ read_of (link_of from s) bytes) where
-        abbrev decision : Ruling → Decided
-        decision u = passed_with (size - held_in from s.head) (location_for (held_in from s.head)) size h p s.head.stopped u
+      module _ (h : Header) (p : Packet) (t : told (link_of from s) bytes (Ok (h, p)) ≡ read_of (link_of from s) bytes) where
+        -- the decision by a ruling
+        abbrev decided : Result Change Refusal → Decided
+        decided (Ok c) = passed_with (size - held_in from s.head) (location_for (held_in from s.head)) size h p s.head.stopped c
+        decided (Err r) = ended_with (number_of r) (size - held_in from s.head) (location_for (held_in from s.head)) size 0 s.head.stopped
 
-        -- the verdict by a ruling on it, from where its bytes lie
-        abbrev verdict : List ℕ → Ruling → VerdictTold
-        verdict there y = ruled_as (held_as from 0 s) from (handed_as (link_of from s) there (OnePacket h p)) (rows_in from s (OnePacket h p) there) y
+        change-of : (u : Result Change Refusal) → (decided u).change ≡ change_in u
+        change-of (Ok c) = refl
+        change-of (Err r) = refl
 
-        ruling-call : (u y : Ruling) → outcome_by from s (concluded_by (decision u) y) piece after
-            ≡ packet_taken from s hold piece (verdict (bytes_at (location_for (held_in from s.head)) size piece after) y) size
+        -- the verdict by a ruling, from where its bytes lie
+        abbrev verdict : List ℕ → Result Change Refusal → VerdictTold
+        verdict there u = ruled_as (held_as from 0 s) from (handed_as (link_of from s) there (Some (h, p))) (rows_in from s (Some (h, p)) there) (numbered u)
+
+        ruling-call : (u : Result Change Refusal) → outcome_by from s (decided u) piece after
+            ≡ packet_taken from s hold piece (verdict (bytes_at (location_for (held_in from s.head)) size piece after) u) size
         unfolding outcome_by applied
-        ruling-call u (Denied n) = refl
-        ruling-call u (Granted change) = refl
-        ruling-call u (Pending i x typed opens scope) = refl
+        ruling-call (Err r) = refl
+        ruling-call (Ok c) = refl
 
         -- its case, and what is ruled on it
-        module _ (x : Case) (u : Ruling) (m : Shows from h.id p (drop h.size bytes) x) (q : u ≡ ruled s.head s.rows s.requests x) where
-          by-verdict : outcome_by from s (concluded_by (decision u) (settled u s.requests)) piece after ≡ offer_of from s hold piece
-          by-verdict =
-              let v : verdict_of (held_as from 0 s) from bytes ≡ verdict bytes (settled u s.requests) =
-              verdict-ruled (held_as from 0 s) from bytes h p t (fit_is s r.fit).ids x u m (q ∙ sym (same-ruled from 0 s x)) in
-              ruling-call u (settled u s.requests)
-              ∙ ap (λ (there : List ℕ). packet_taken from s hold piece (verdict there (settled u s.requests)) size) lying
-              ∙ sym (taken_is ∙ ap (λ (y : VerdictTold). packet_taken from s hold piece y size) v)
+        pub ruled-call : (x : Case) (u : Result Change Refusal) → Shows from h.id p (drop h.size bytes) x → u ≡ ruled s.head s.rows s.requests x
+            → Decides from s (decided u) hold piece after
+        ruled-call x u m q =
+            let v : verdict_of (held_as from 0 s) from bytes ≡ verdict bytes u = verdict-ruled (held_as from 0 s) from bytes h p t (fit_is s r.fit).ids x u m (q ∙ sym (same-ruled from 0 s x)) in
+            let by-case : change_at from s hold piece ≡ change_in u =
+            change-is ∙ rw (passing t refl).number (sym (ap change_in (q ∙ ap (ruled s.head s.rows s.requests) (case-is s from bytes h p t x m)))) in
+            record {
+              comes =
+                  ruling-call u
+                  ∙ ap (λ (there : List ℕ). packet_taken from s hold piece (verdict there u) size) lying
+                  ∙ sym (taken_is ∙ ap (λ (y : VerdictTold). packet_taken from s hold piece y size) v);
+              change = change-of u ∙ sym by-case;
+            }
 
-          by-case : ruling_at from s hold piece ≡ unrefused u
-          by-case =
-              ruling-is ∙ rw (passing t refl).number (sym (ap unrefused (q ∙ ap (ruled s.head s.rows s.requests) (case-is s from bytes h p t x m))))
-
-          pub ruled-call : unrefused u ≡ u → Decides from s (decision u) hold piece after
-          unfolding concluded
-          ruled-call k = record { comes = by-verdict; ruling = sym (by-case ∙ k); told = λ w. record { number = refl; handed = rw lying (λ i. (t i).handed) } }
-
-          -- a session check refuses it
-          pub ruled-out-call : (n : ℕ) → u ≡ Denied n
-              → Decides from s (ended_with n (size - held_in from s.head) (location_for (held_in from s.head)) size 0 s.head.stopped) hold piece after
-          ruled-out-call n k =
-              ends (sym (ap (λ (y : Ruling). outcome_by from s (concluded_by (decision u) (settled y s.requests)) piece after) k) ∙ by-verdict) (by-case ∙ ap unrefused k)
+-- a decision that is carried out comes to the call's outcome
+pub carried : (from : Side) (s : Session) (hold piece after : List ℕ) (d : Decided) {x : Session} → Decides from s d hold piece after
+    → x ≡ session_after from s d (rows_in from s d.answer.handed (bytes_at d.answer.location d.answer.size piece after))
+    → outcome (link_of from s) (record { session = x; answer = d.answer }) piece after ≡ offer_of from s hold piece
+unfolding outcome_by
+carried from s hold piece after d p e = ap (λ (y : Session). outcome (link_of from s) (record { session = y; answer = d.answer }) piece after) e ∙ p.comes

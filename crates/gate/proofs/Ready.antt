@@ -4,6 +4,7 @@
 -- (`completed-front`). That a packet or a refused header has more bytes than were held is `more-less` and `more-head`, and that it fits the
 -- buffer goes by its greatest size. The tests are split one by one.
 -- Assumes nothing.
+use Rattle.std.specs.Prelude.{Option}
 use Prim.Native.Nat.{ℕ, ◌+◌, ◌-◌, ◌≤◌, ◌<◌}
 use native.Mathlib.Omega.{arith}
 use mathlib.Core.Path.{◌≡◌, refl, sym, ap, ◌∙◌}
@@ -17,7 +18,6 @@ use Rattle.octets.proofs.Logic.{or_parts, or-none}
 use Rattle.octets.proofs.Integers.{take-sets}
 use Rattle.header.specs.declared.Side.{Side}
 use Rattle.header.specs.declared.Side.TheVariants.{Guest, Host}
-use Rattle.header.specs.declared.HelloState.{HelloState}
 use Rattle.header.specs.declared.Link.{Link}
 use Rattle.header.specs.Link.{passed}
 use Rattle.header.specs.Header.{hold_size, kind_of}
@@ -145,7 +145,7 @@ not-barred from s hold r = simp (le-ltb (length hold) hold_size r.room, r.fit, r
 
 -- ---- a session that 43 does not refuse for itself
 
-count_fits : (own other : HelloState) (n : ℕ) → held_bad own other n ≡ false → FitCount own other n
+count_fits : (own other : Option ℕ) (n : ℕ) → held_bad own other n ≡ false → FitCount own other n
 count_fits own other n e =
     let p = or_parts (ltb max_held n) (passed own && not (passed other) && ltb 0 n) e in
     record {
@@ -154,7 +154,7 @@ count_fits own other n e =
           λ a b. let z : 0 < n → ⊥ = λ h. true≢false (sym (simp (a, b, lt-ltb 0 n h)) ∙ p.1) in omega (arith, z);
     }
 
-fits_count : (own other : HelloState) (n : ℕ) → FitCount own other n → held_bad own other n ≡ false
+fits_count : (own other : Option ℕ) (n : ℕ) → FitCount own other n → held_bad own other n ≡ false
 fits_count own other n f = or-none (ltb max_held n) (passed own && not (passed other) && ltb 0 n) (le-ltb max_held n f.few) (go (passed own) refl (passed other) refl)
   where
     go : (a : Bool) → passed own ≡ a → (b : Bool) → passed other ≡ b → (a && not b && ltb 0 n) ≡ false

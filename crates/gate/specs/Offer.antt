@@ -1,7 +1,6 @@
 -- A reader call: its number, the bytes that it takes of its piece, the session and the holding buffer after it, and what it hands out.
 -- Assumes nothing: these are definitions.
-use Rattle.std.specs.Prelude.{ℕ, ◌+◌, ◌-◌, ◌≤◌, Bool, cond, not, ◌&&◌, ◌||◌, List, [], ◌++◌, length, take, drop, eqb, ltb}
-use Rattle.std.proofs.Math.Option.{Option, none}
+use Rattle.std.specs.Prelude.{ℕ, ◌+◌, ◌-◌, ◌≤◌, Bool, cond, not, ◌&&◌, ◌||◌, List, [], ◌++◌, length, take, drop, eqb, ltb, Option, None, Some}
 use Rattle.std.proofs.lemmas.List.Edits.{sets}
 use Rattle.header.specs.declared.Side.{Side}
 use Rattle.header.specs.declared.Link.{Link}
@@ -14,8 +13,7 @@ use Rattle.frame.specs.Cut.{Cut, more, bad, whole}
 use Rattle.frame.specs.declared.Location.{Location}
 use Rattle.frame.specs.declared.Location.TheVariants.{Nowhere}
 use Rattle.frame.specs.Frame.{head_size, cut_at, is_more, completed, location_for, bytes_at}
-use Rattle.gate.specs.declared.Handed.{Handed}
-use Rattle.gate.specs.declared.Handed.TheVariants.{NoPacket, OnePacket}
+use Rattle.gate.specs.Verdict.{Handed}
 use Rattle.gate.specs.declared.Offered.{Offered}
 use Rattle.gate.specs.Verdict.{held_of, held_as, stopped_now, VerdictTold, verdict_of, handed_as}
 use Rattle.header.specs.Header.{hold_size}
@@ -58,7 +56,7 @@ pub record Outcome : Type 0 where
 
 -- "takes nothing"; "nothing taken or changed"
 abbrev pub unmoved : Session → List ℕ → ℕ → Outcome
-unmoved s hold n = record { session = s; number = n; taken = 0; location = Nowhere; size = 0; handed = none; hold = hold }
+unmoved s hold n = record { session = s; number = n; taken = 0; location = Nowhere; size = 0; handed = None; hold = hold }
 
 -- 1: "piece used up, packet not whole"; it is kept behind what is held
 abbrev pub kept : Side → Session → List ℕ → List ℕ → Outcome
@@ -69,7 +67,7 @@ kept from s hold piece =
       taken = length piece;
       location = Nowhere;
       size = 0;
-      handed = none;
+      handed = None;
       hold = sets hold (held_of from s) piece;
     }
 
@@ -82,7 +80,7 @@ header_refused from s hold piece n size =
       taken = size - held_of from s;
       location = location_for (held_of from s);
       size = size;
-      handed = none;
+      handed = None;
       hold = completed hold (held_of from s) piece size;
     }
 
@@ -129,12 +127,12 @@ outcome l r piece hold =
 
 -- the body of a packet that is handed out, behind its header, and the part of it that the packet names
 abbrev pub body_in : Handed → List ℕ → List ℕ
-body_in NoPacket bytes = []
-body_in (OnePacket h p) bytes = drop h.size bytes
+body_in None bytes = []
+body_in (Some (h, p)) bytes = drop h.size bytes
 
 abbrev pub data_in : Handed → List ℕ → List ℕ
-data_in NoPacket bytes = []
-data_in (OnePacket h p) bytes = in_part (rest_of p) (drop h.size bytes)
+data_in None bytes = []
+data_in (Some (h, p)) bytes = in_part (rest_of p) (drop h.size bytes)
 
 -- the bytes of a whole packet of n bytes can be held and are there
 pub record WholeHere (hold piece : List ℕ) (held n : ℕ) : Type 0 where

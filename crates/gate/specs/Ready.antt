@@ -1,8 +1,7 @@
 -- What a call that is not barred has (`Ready`), and 43's tests of a session as relations (`Fit`).
 -- Assumes nothing: these are definitions.
-use Rattle.std.specs.Prelude.{ℕ, ◌≤◌, ◌≡◌, true, false, List, length}
+use Rattle.std.specs.Prelude.{ℕ, ◌≤◌, ◌≡◌, true, false, List, length, Option}
 use Rattle.header.specs.declared.Side.{Side}
-use Rattle.header.specs.declared.HelloState.{HelloState}
 use Rattle.header.specs.Link.{passed}
 use Rattle.header.specs.Header.{hold_size}
 use Rattle.device.specs.Device.{control_rows}
@@ -22,7 +21,7 @@ pub record Ready (from : Side) (s : Session) (hold : List ℕ) : Type 0 where
   pub not-waiting : is_waiting (link_of from s) ≡ false
 
 -- "a held count over 32,783 or, own hello passed and other's not, over 0" does not hold of n bytes held
-pub record FitCount (own other : HelloState) (n : ℕ) : Type 0 where
+pub record FitCount (own other : Option ℕ) (n : ℕ) : Type 0 where
   pub few : n ≤ max_held
   pub none-waiting : passed own ≡ true → passed other ≡ false → n ≡ 0
 

@@ -1,23 +1,20 @@
 -- A whole packet: its number, what is handed out, and the session after it.
 -- Assumes nothing: these are definitions.
-use Rattle.std.specs.Prelude.{ℕ, true, cond, List, eqb}
-use Rattle.std.proofs.Math.Option.{Option, none}
+use Rattle.std.specs.Prelude.{ℕ, true, cond, List, eqb, Option, None, Result, Ok, Err, Some}
+use Rattle.header.specs.declared.Header.{Header}
 use Rattle.header.specs.declared.Link.{Link}
 use Rattle.header.specs.declared.Side.{Side}
 use Rattle.header.specs.Header.{kind_of}
 use Rattle.kinds.specs.Codec.{decode, read_number}
 use Rattle.device.specs.declared.Head.{Head}
 use Rattle.device.specs.declared.Rows.{Rows}
-use Rattle.decoder.specs.declared.Reading.TheVariants.{Decoded as Read}
+use Rattle.packet.specs.declared.Packet.{Packet}
 use Rattle.decoder.specs.Reading.{PacketTold, told, read_of}
 use Rattle.events.specs.Event.{event_of}
-use Rattle.checks.specs.declared.Ruling.{Ruling}
-use Rattle.checks.specs.declared.Ruling.TheVariants.{Denied, Granted, Pending}
+use Rattle.checks.specs.declared.Change.{Change}
 use Rattle.session.specs.declared.Session.{Session}
 use Rattle.session.specs.Session.{link_of, held_in, held_to}
 use Rattle.session.specs.Step.{applied, judged}
-use Rattle.gate.specs.declared.Handed.{Handed}
-use Rattle.gate.specs.declared.Handed.TheVariants.{NoPacket, OnePacket}
 
 -- ---- the held bytes of a direction, and a stop
 
@@ -54,18 +51,21 @@ verdict_of s from bytes =
     (record {
       session = (judged s (event_of from (decode (link_of from s) bytes))).session;
       number = (judged s (event_of from (decode (link_of from s) bytes))).number;
-      handed = cond (eqb (judged s (event_of from (decode (link_of from s) bytes))).number 0) (read_of (link_of from s) bytes).handed none;
+      handed = cond (eqb (judged s (event_of from (decode (link_of from s) bytes))).number 0) (read_of (link_of from s) bytes).handed None;
     })
-    (record { session = refused_as s (kind_of bytes); number = read_number (link_of from s) bytes; handed = none })
+    (record { session = refused_as s (kind_of bytes); number = read_number (link_of from s) bytes; handed = None })
 
 -- ---- what the code's types say
 
-abbrev pub handed_as : Link → List ℕ → Handed → Option PacketTold
-handed_as l bytes NoPacket = none
-handed_as l bytes (OnePacket h p) = (told l bytes (Read h p)).handed
+-- what is handed out: nothing, or the header and the packet
+abbrev pub Handed : Type 0
+Handed = Option (Header × Packet)
 
--- the verdict by a ruling that waits for no slot, with what is handed out and the rows announced if it passes
-abbrev pub ruled_as : Session → Side → Option PacketTold → Rows → Ruling → VerdictTold
-ruled_as s from out new (Denied n) = record { session = s; number = n; handed = none }
-ruled_as s from out new (Granted c) = record { session = applied s from c new; number = 0; handed = out }
-ruled_as s from out new (Pending i x typed stream scope) = record { session = s; number = 0; handed = out }
+abbrev pub handed_as : Link → List ℕ → Handed → Option PacketTold
+handed_as l bytes None = None
+handed_as l bytes (Some (h, p)) = (told l bytes (Ok (h, p))).handed
+
+-- the verdict by a ruling, with what is handed out and the rows announced if it passes
+abbrev pub ruled_as : Session → Side → Option PacketTold → Rows → Result Change ℕ → VerdictTold
+ruled_as s from out new (Err n) = record { session = s; number = n; handed = None }
+ruled_as s from out new (Ok c) = record { session = applied s from c new; number = 0; handed = out }

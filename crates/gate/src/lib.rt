@@ -1,45 +1,38 @@
 // The gate: a reader that is offered pieces of what each end sends, and a writer, over one session.
 #![tactic(auto)]
 
-ghost use Rattle.std.specs.Prelude.{◌≡◌, List, ◌++◌, ℕ, ◌≤◌, length, take};
+ghost use Rattle.std.specs.Prelude.{◌≡◌, ◌++◌, ◌≤◌, ℕ, List, length, take, cond};
 ghost use Rattle.header.specs.declared.Side.{Side};
 ghost use Rattle.header.specs.Link.{shared_set};
 ghost use Rattle.header.specs.Header.{hold_size};
+ghost use Rattle.header.specs.Refusal.{number_in};
 ghost use Rattle.packet.specs.Packet.{content_of};
-ghost use Rattle.frame.specs.Frame.{bytes_at};
-ghost use Rattle.frame.specs.Frame.{Cuts};
-ghost use Rattle.checks.specs.Ruled.{awaited};
-ghost use Rattle.session.specs.declared.Session.{Session};
-ghost use Rattle.session.specs.Session.{link_to, link_of, held_in};
+ghost use Rattle.frame.specs.Frame.{bytes_at, Cuts};
+ghost use Rattle.session.specs.Session.{link_of, held_in};
 ghost use Rattle.gate.specs.Offer.{is_waiting, held_whole, barred, offer_of, outcome, body_in, data_in};
-ghost use Rattle.gate.specs.Decide.{ended_with, passed_with, concluded, change_in, rows_handed, Lends, Decides};
+ghost use Rattle.gate.specs.Decide.{ended_with, passed_with, rows_handed, rows_in, session_after, Decides};
 ghost use Rattle.gate.specs.Ready.{Ready};
 ghost use Rattle.gate.specs.Write.{shut, WritesBy};
 
-use checks::{Change, Ruling, awaited_place, rule};
-use decoder::{Reading, read_behind};
-use device::{Head, Rows, start_rows};
+use checks::{Change, rule};
+use decoder::read_behind;
+use device::{Rows, start_rows};
 use encoder::Written;
 use events::{announced, case_of};
 use frame::{Cut, Location, complete, cut_of, ends_within, lend, location_of};
-use header::{HOLD_SIZE, Header, Link, Side, has_passed, own_hello_passed};
-use octets::{get, lay, part, saturating_sub};
+use header::{HOLD_SIZE, Header, Link, Refusal, Side, own_hello_passed};
+use octets::{get, lay, part};
 use packet::{Packet, is_hello, part_of, rest_of};
-use requests::{PLACES, Requests, Slot, free_slot, slot_for};
-use session::{Session, apply, edit_of, has_wide_ids, held_in, hold_to, is_unfit, link_to, store};
-use watch::{Watch, note};
+use session::{Session, held_in, hold_to, link_to};
 
 // What is handed out: nothing, or the packet that passed as its own reading.
-#[derive(Clone, Copy)]
-pub enum Handed {
-    NoPacket,
-    OnePacket(Header, Packet),
-}
+pub type Handed = Option<(Header, Packet)>;
 
 // A reader call's number; the bytes that it took of its piece; where the packet lies, or the header that it refused, and its size; and
 // what it hands out.
 #[derive(Clone, Copy)]
 pub struct Answer {
+    // a number, as the rules have it: the theorems of the reader speak of it, and hosts get it
     pub number: u8,
     pub taken: usize,
     pub location: Location,
@@ -54,50 +47,49 @@ pub struct Offered {
     pub answer: Answer,
 }
 
-// A call decided: its answer, the bytes held after it, whether the session is stopped then, and the ruling on its packet. Where the
-// ruling waits for a slot, the answer is that of a packet that passes.
+// A call decided: its answer, the bytes held after it, whether the session is stopped then, and the change that its packet makes.
 #[derive(Clone, Copy)]
 pub struct Decided {
     pub answer: Answer,
     pub held: usize,
     pub stopped: bool,
-    pub ruling: Ruling,
+    pub change: Change,
 }
 
 // The sender's hello has passed and the other's has not.
 fn is_waiting(l: Link) -> bool
     ensures { result ≡ is_waiting l }
 {
-    let guest = l.guest;
-    let host = l.host;
-    own_hello_passed(l) & !(has_passed(guest) & has_passed(host))
+    own_hello_passed(l) & !(l.guest.is_some() & l.host.is_some())
 }
 
-// 41, 43, 3 or 2 where one holds, in that order, else 0. Given are the size of the holding buffer, and whether the held bytes are a whole
-// packet already, or a header that is refused.
-fn barred_by<'a>(
-    h: Head,
-    types: &'a [u8; 32],
-    used: usize,
-    live: &'a [bool; PLACES],
-    ids: &'a [u64; PLACES],
-    l: Link,
-    room: usize,
-    whole: bool,
-) -> u8
-    ensures { (s : Session) (from : Side) (hold : List ℕ) → s.head ≡ h → s.rows.types ≡ types.now → s.requests.used ≡ used → s.requests.live ≡ live.now → s.requests.ids ≡ ids.now → l ≡ link_to from h → room ≡ length hold → whole ≡ held_whole from s hold → result ≡ barred from s hold }
+// 43, 3 or 2 where one holds, in that order.
+fn check_state(unfit: bool, stopped: bool, waiting: bool) -> Result<(), Refusal>
+    ensures { number_in result ≡ cond unfit 43 (cond stopped 3 (cond waiting 2 0)) }
+{
+    if unfit {
+        return Err(Refusal::Unfit);
+    }
+    if stopped {
+        return Err(Refusal::Stopped);
+    }
+    if waiting {
+        return Err(Refusal::Waiting);
+    }
+    Ok(())
+}
+
+// 41, 43, 3 or 2 where one holds, in that order. Given are the size of the holding buffer, and whether the held bytes are a whole packet
+// already, or a header that is refused.
+#[tactic(auto, unfolding(crate::specs::Offer::barred))]
+fn admit(s: &Session, l: Link, room: usize, whole: bool) -> Result<(), Refusal>
+    ensures { (from : Side) (hold : List ℕ) → l ≡ link_of from s.now → room ≡ length hold → whole ≡ held_whole from s.now hold → number_in result ≡ barred from s.now hold }
 {
     let is_short = room < HOLD_SIZE;
     if is_short {
-        return 41;
+        return Err(Refusal::HoldTooShort);
     }
-    if is_unfit(h, types, used, live, ids) | whole {
-        return 43;
-    }
-    if h.stopped {
-        return 3;
-    }
-    if is_waiting(l) { 2 } else { 0 }
+    check_state(s.is_unfit() | whole, s.head.stopped, is_waiting(l))
 }
 
 // A call by which no packet passes.
@@ -111,60 +103,52 @@ fn ended(
 ) -> Decided
     ensures { result ≡ ended_with number taken location size held stopped }
 {
-    let handed = Handed::NoPacket;
     let answer = Answer {
         number,
         taken,
         location,
         size,
-        handed,
+        handed: None,
     };
-    let ruling = Ruling::Granted(Change::NoChange);
     Decided {
         answer,
         held,
         stopped,
-        ruling,
+        change: Change::NoChange,
     }
 }
 
-// A call by which a packet passes, or waits for a slot.
-fn passing(
+// A call by which a packet passes.
+fn passed(
     taken: usize,
     location: Location,
     size: usize,
     g: Header,
     p: Packet,
     stopped: bool,
-    ruling: Ruling,
+    change: Change,
 ) -> Decided
-    ensures { result ≡ passed_with taken location size g p stopped ruling }
+    ensures { result ≡ passed_with taken location size g p stopped change }
 {
-    let handed = Handed::OnePacket(g, p);
     let answer = Answer {
         number: 0,
         taken,
         location,
         size,
-        handed,
+        handed: Some((g, p)),
     };
     Decided {
         answer,
         held: 0,
         stopped,
-        ruling,
+        change,
     }
 }
 
 // The packet is whole: it is completed, read and ruled on.
-fn take_packet<'a>(
-    h: Head,
-    types: &'a [u8; 32],
-    streams: &'a [bool; 32],
-    used: usize,
-    live: &'a [bool; PLACES],
-    kinds: &'a [u8; PLACES],
-    ids: &'a [u64; PLACES],
+fn take_packet(
+    s: &Session,
+    from: Side,
     l: Link,
     held: usize,
     kind: u32,
@@ -173,136 +157,57 @@ fn take_packet<'a>(
     hold: &mut [u8],
     piece: &[u8],
 ) -> Decided
-    requires { size ≤ hold_size }
-    ensures { (s : Session) (from : Side) → Lends s h types.now streams.now used live.now kinds.now ids.now → l ≡ link_to from h → held ≡ held_in from h → Ready from s hold.old → Cuts l (take held hold.old ++ piece.now) kind head size → Decides from s result hold.old piece.now hold.new }
+    requires { (size ≤ hold_size) × (l ≡ link_of from s.now) × (held ≡ held_in from s.now.head) × Ready from s.now hold.old × Cuts l (take held hold.old ++ piece.now) kind head size }
+    ensures { Decides from s.now result hold.old piece.now hold.new }
 {
     let taken = complete(hold, held, piece, size);
     let location = location_of(held);
     let bytes = lend(location, size, piece, hold);
     let header = Header {
         kind,
-        length: saturating_sub(size, head) as u32,
-        id: get(bytes, 8, saturating_sub(head, 8)),
+        length: size.saturating_sub(head) as u32,
+        id: get(bytes, 8, head.saturating_sub(8)),
         size: head,
     };
     let body = part(bytes, head, bytes.len());
-    let from = l.sender;
-    let reading = read_behind(l, header, body);
-    match reading {
-        Reading::Refused(n) => ended(n, taken, location, size, 0, h.stopped | (kind == 0)),
-        Reading::Decoded(g, p) => {
-            let ruling = rule(
-                h,
-                types,
-                streams,
-                used,
-                live,
-                kinds,
-                ids,
-                case_of(from, g.id, p, body),
-            );
-            match ruling {
-                Ruling::Denied(n) => ended(n, taken, location, size, 0, h.stopped),
-                Ruling::Granted(_) => passing(taken, location, size, g, p, h.stopped, ruling),
-                Ruling::Pending(_, _, _, _, _) => {
-                    passing(taken, location, size, g, p, h.stopped, ruling)
-                }
+    let stopped = s.head.stopped;
+    match read_behind(l, header, body) {
+        Err(r) => ended(r.number(), taken, location, size, 0, stopped | (kind == 0)),
+        Ok((g, p)) => {
+            match rule(s.head, &s.rows, &s.requests, case_of(from, g.id, p, body)) {
+                Ok(change) => passed(taken, location, size, g, p, stopped, change),
+                Err(r) => ended(r.number(), taken, location, size, 0, stopped),
             }
         }
     }
 }
 
-// Decides a call over the head and the columns of a session, which are lent. The held bytes stand at the front of hold.
-pub fn decide<'a>(
-    h: Head,
-    types: &'a [u8; 32],
-    streams: &'a [bool; 32],
-    used: usize,
-    live: &'a [bool; PLACES],
-    kinds: &'a [u8; PLACES],
-    ids: &'a [u64; PLACES],
-    from: Side,
-    hold: &mut [u8],
-    piece: &[u8],
-) -> Decided
-    ensures { (s : Session) → Lends s h types.now streams.now used live.now kinds.now ids.now → Decides from s result hold.old piece.now hold.new }
+// Decides a call over a session, which is lent. The held bytes stand at the front of hold.
+pub fn decide(s: &Session, from: Side, hold: &mut [u8], piece: &[u8]) -> Decided
+    ensures { Decides from s.now result hold.old piece.now hold.new }
 {
-    let l = link_to(h, from);
-    let held = held_in(h, from);
+    let l = link_to(s.head, from);
+    let held = held_in(s.head, from);
+    let stopped = s.head.stopped;
     let begun = part(hold, 0, held);
-    let c = cut_of(l, begun, piece);
-    let whole = ends_within(c, begun.len());
-    let number = barred_by(h, types, used, live, ids, l, hold.len(), whole);
-    if number != 0 {
-        return ended(number, 0, Location::Nowhere, 0, held, h.stopped);
+    let cut = cut_of(l, begun, piece);
+    let whole = ends_within(cut, begun.len());
+    if let Err(r) = admit(s, l, hold.len(), whole) {
+        return ended(r.number(), 0, Location::Nowhere, 0, held, stopped);
     }
-    match c {
+    match cut {
         Cut::More => {
             let taken = piece.len();
             lay(hold, held, piece);
-            ended(1, taken, Location::Nowhere, 0, held + taken, h.stopped)
+            ended(1, taken, Location::Nowhere, 0, held + taken, stopped)
         }
-        Cut::BadHeader(n, size) => {
+        Cut::BadHeader(r, size) => {
             let taken = complete(hold, held, piece, size);
-            ended(n, taken, location_of(held), size, 0, true)
+            ended(r.number(), taken, location_of(held), size, 0, true)
         }
-        Cut::WholePacket(kind, head, size) => take_packet(
-            h, types, streams, used, live, kinds, ids, l, held, kind, head, size, hold, piece,
-        ),
-    }
-}
-
-// The place whose slot a decision waits for, 96 where it waits for none.
-pub fn wanted(d: Decided) -> usize
-    ensures { result ≡ awaited d.ruling }
-{
-    let ruling = d.ruling;
-    awaited_place(ruling)
-}
-
-// A decision with the slot that it waits for.
-pub fn settle(d: Decided, slot: Slot) -> Decided
-    ensures { result ≡ concluded d slot }
-{
-    let answer = d.answer;
-    let waiting = d.ruling;
-    let ruling = checks::settle_ruling(waiting, slot);
-    match ruling {
-        Ruling::Denied(number) => {
-            let location = answer.location;
-            ended(
-                number,
-                answer.taken,
-                location,
-                answer.size,
-                d.held,
-                d.stopped,
-            )
+        Cut::WholePacket(kind, head, size) => {
+            take_packet(s, from, l, held, kind, head, size, hold, piece)
         }
-        Ruling::Granted(_) => Decided {
-            answer,
-            held: d.held,
-            stopped: d.stopped,
-            ruling,
-        },
-        Ruling::Pending(_, _, _, _, _) => Decided {
-            answer,
-            held: d.held,
-            stopped: d.stopped,
-            ruling: Ruling::Granted(Change::NoChange),
-        },
-    }
-}
-
-// What a decision that waits for no slot does.
-pub fn change_of(d: Decided) -> Change
-    ensures { result ≡ change_in d.ruling }
-{
-    let ruling = d.ruling;
-    match ruling {
-        Ruling::Denied(_) => Change::NoChange,
-        Ruling::Granted(c) => c,
-        Ruling::Pending(_, _, _, _, _) => Change::NoChange,
     }
 }
 
@@ -311,101 +216,36 @@ pub fn rows_handed(handed: Handed, body: &[u8]) -> Rows
     ensures { (from : Side) (caps id : ℕ) → result ≡ rows_handed from caps id handed body.now }
 {
     match handed {
-        Handed::NoPacket => start_rows(),
-        Handed::OnePacket(_, p) => announced(p, body),
+        None => start_rows(),
+        Some((_, p)) => announced(p, body),
     }
 }
 
-// Offers a piece of what a side sends: the core, which takes and returns the session. The held bytes stand at the front of hold. The
-// session is taken apart into its columns, which are lent and changed, and put together again; a wide change goes by `apply`.
+// Does to the session over which a call was decided what the decision says.
+pub fn carry_out(s: &mut Session, from: Side, d: &Decided, piece: &[u8], hold: &[u8])
+    ensures { s.new ≡ session_after from s.old d.now (rows_in from s.old d.now.answer.handed (bytes_at d.now.answer.location d.now.answer.size piece.now hold.now)) }
+{
+    let new = rows_handed(d.answer.handed, body_of(d.answer, piece, hold));
+    s.head = hold_to(s.head, from, d.held, d.stopped);
+    s.apply(from, d.change, &new);
+}
+
+// A call on a session in place. It is a function of its own, so that `offer` copies the session in and out and no more.
+#[inline(never)]
+fn call(s: &mut Session, from: Side, hold: &mut [u8], piece: &[u8]) -> Answer
+    ensures { outcome (link_of from s.old) (record { session = s.new; answer = result }) piece.now hold.new ≡ offer_of from s.old hold.old piece.now }
+{
+    let d = decide(s, from, hold, piece);
+    carry_out(s, from, &d, piece, hold);
+    d.answer
+}
+
+// Offers a piece of what a side sends: the core, which takes and returns the session. The held bytes stand at the front of hold.
 pub fn offer(s: Session, from: Side, hold: &mut [u8], piece: &[u8]) -> Offered
     ensures { outcome (link_of from s) result piece.now hold.new ≡ offer_of from s hold.old piece.now }
 {
-    let h = s.head;
-    let r = s.rows;
-    let t = s.requests;
-    let types = r.types;
-    let interfaces = r.interfaces;
-    let mut streams = r.streams;
-    let mut live = t.live;
-    let mut kinds = t.kinds;
-    let mut ids = t.ids;
-    let mut slots = t.slots;
-    let w = s.watch;
-    let mut expected = w.expected;
-    let mut gaps = w.gaps;
-    let mut breaks = w.breaks;
-    let d = decide(
-        h, &types, &streams, t.used, &live, &kinds, &ids, from, hold, piece,
-    );
-    let at = wanted(d);
-    let slot = if at < PLACES { slots[at] } else { free_slot() };
-    let e = settle(d, slot);
-    let answer = e.answer;
-    let head = hold_to(h, from, e.held, e.stopped);
-    let c = change_of(e);
-    let edit = edit_of(&types, c);
-    if edit.wide {
-        let handed = answer.handed;
-        let before = Session {
-            head,
-            rows: Rows {
-                types,
-                interfaces,
-                streams,
-            },
-            requests: Requests {
-                used: t.used,
-                live,
-                kinds,
-                ids,
-                slots,
-            },
-            watch: Watch {
-                expected,
-                gaps,
-                breaks,
-            },
-        };
-        let new = rows_handed(handed, body_of(answer, piece, hold));
-        let session = apply(before, from, c, new);
-        return Offered { session, answer };
-    }
-    let used = store(edit, t.used, &mut streams, &mut live, &mut kinds, &mut ids);
-    let place = edit.place;
-    if place < PLACES {
-        let q = edit.request;
-        slots[place] = slot_for(q);
-    }
-    note(
-        edit.watched,
-        edit.seen,
-        has_wide_ids(head),
-        edit.id,
-        &mut expected,
-        &mut gaps,
-        &mut breaks,
-    );
-    let session = Session {
-        head,
-        rows: Rows {
-            types,
-            interfaces,
-            streams,
-        },
-        requests: Requests {
-            used,
-            live,
-            kinds,
-            ids,
-            slots,
-        },
-        watch: Watch {
-            expected,
-            gaps,
-            breaks,
-        },
-    };
+    let mut session = s;
+    let answer = call(&mut session, from, hold, piece);
     Offered { session, answer }
 }
 
@@ -413,8 +253,7 @@ pub fn offer(s: Session, from: Side, hold: &mut [u8], piece: &[u8]) -> Offered
 pub fn bytes_of<'a>(a: Answer, piece: &'a [u8], hold: &'a [u8]) -> &'a [u8]
     ensures { result.now ≡ bytes_at a.location a.size piece.now hold.now }
 {
-    let location = a.location;
-    lend(location, a.size, piece, hold)
+    lend(a.location, a.size, piece, hold)
 }
 
 // The body of the packet that is handed out, and nothing where none is.
@@ -422,10 +261,9 @@ pub fn body_of<'a>(a: Answer, piece: &'a [u8], hold: &'a [u8]) -> &'a [u8]
     ensures { result.now ≡ body_in a.handed (bytes_at a.location a.size piece.now hold.now) }
 {
     let bytes = bytes_of(a, piece, hold);
-    let handed = a.handed;
-    match handed {
-        Handed::NoPacket => part(bytes, 0, 0),
-        Handed::OnePacket(h, _) => part(bytes, h.size, bytes.len()),
+    match a.handed {
+        None => part(bytes, 0, 0),
+        Some((h, _)) => part(bytes, h.size, bytes.len()),
     }
 }
 
@@ -434,48 +272,33 @@ pub fn data_of<'a>(a: Answer, piece: &'a [u8], hold: &'a [u8]) -> &'a [u8]
     ensures { result.now ≡ data_in a.handed (bytes_at a.location a.size piece.now hold.now) }
 {
     let body = body_of(a, piece, hold);
-    let handed = a.handed;
-    match handed {
-        Handed::NoPacket => body,
-        Handed::OnePacket(_, p) => part_of(body, rest_of(p)),
+    match a.handed {
+        None => body,
+        Some((_, p)) => part_of(body, rest_of(p)),
     }
 }
 
-// 43, 3 or 2 where one holds for a packet to be written, in that order, else 0.
-fn shut_by<'a>(
-    h: Head,
-    types: &'a [u8; 32],
-    used: usize,
-    live: &'a [bool; PLACES],
-    ids: &'a [u64; PLACES],
-    from: Side,
-    hello: bool,
-) -> u8
-    ensures { (s : Session) → s.head ≡ h → s.rows.types ≡ types.now → s.requests.used ≡ used → s.requests.live ≡ live.now → s.requests.ids ≡ ids.now → result ≡ shut from s hello }
+// 43, 3 or 2 where one holds for a packet to be written, in that order.
+#[tactic(auto, unfolding(crate::specs::Write::shut))]
+fn admit_writing(s: &Session, from: Side, hello: bool) -> Result<(), Refusal>
+    ensures { number_in result ≡ shut from s.now hello }
 {
-    if is_unfit(h, types, used, live, ids) {
-        return 43;
-    }
-    if h.stopped {
-        return 3;
-    }
-    if is_waiting(link_to(h, from)) & !hello {
-        2
-    } else {
-        0
-    }
+    check_state(
+        s.is_unfit(),
+        s.head.stopped,
+        is_waiting(link_to(s.head, from)) & !hello,
+    )
 }
 
 // Writes a packet of a side, whose parts lie in body, at the front of out; where the number is not 0, out stays as it is.
 pub fn write(s: Session, from: Side, id: u64, p: Packet, body: &[u8], out: &mut [u8]) -> Written
     ensures { WritesBy from s (content_of (shared_set (link_of from s)) id p body.now) out.old result out.new }
 {
-    let h = s.head;
-    let rows = s.rows;
-    let t = s.requests;
-    let number = shut_by(h, &rows.types, t.used, &t.live, &t.ids, from, is_hello(p));
-    if number != 0 {
-        return Written { number, size: 0 };
+    if let Err(r) = admit_writing(&s, from, is_hello(p)) {
+        return Written {
+            number: r.number(),
+            size: 0,
+        };
     }
-    encoder::write(link_to(h, from), id, p, body, out)
+    encoder::write(link_to(s.head, from), id, p, body, out)
 }

@@ -1,2 +1,3 @@
 pub mod Link
 pub mod Header
+pub mod Refusal

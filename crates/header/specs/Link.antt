@@ -1,12 +1,10 @@
 -- The two ends and what they share.
 -- Assumes nothing: these are definitions.
-use Rattle.std.specs.Prelude.{ℕ, Bool, true, false, cond, not, ◌&&◌, eqb}
+use Rattle.std.specs.Prelude.{ℕ, Bool, true, false, cond, not, ◌&&◌, eqb, Option, Some, None}
 use Rattle.std.specs.Int.Bits.{bit_and}
 use Rattle.octets.specs.Bits.{has_bit}
 use Rattle.header.specs.declared.Side.{Side}
 use Rattle.header.specs.declared.Side.TheVariants.{Guest, Host}
-use Rattle.header.specs.declared.HelloState.{HelloState}
-use Rattle.header.specs.declared.HelloState.TheVariants.{Awaited, Passed}
 use Rattle.header.specs.declared.Link.{Link}
 
 -- a side as a number: 0 for the guest, any other for the host
@@ -22,20 +20,20 @@ opposite Guest = Host
 opposite Host = Guest
 
 -- the first capability word of a hello that has passed; one that has not offers nothing
-abbrev pub offered : HelloState → ℕ
-offered Awaited = 0
-offered (Passed word) = word
+abbrev pub offered : Option ℕ → ℕ
+offered None = 0
+offered (Some word) = word
 
-abbrev pub passed : HelloState → Bool
-passed Awaited = false
-passed (Passed word) = true
+abbrev pub passed : Option ℕ → Bool
+passed None = false
+passed (Some word) = true
 
 -- the sender's own hello
-abbrev pub hello_of : Side → Link → HelloState
+abbrev pub hello_of : Side → Link → Option ℕ
 hello_of Guest l = l.guest
 hello_of Host l = l.host
 
-abbrev pub own : Link → HelloState
+abbrev pub own : Link → Option ℕ
 own l = hello_of l.sender l
 
 -- document 01: "Shared set: bits set in both hellos' first capability word."

@@ -2,8 +2,9 @@
 #![tactic(auto)]
 
 ghost use Rattle.std.specs.Prelude.{◌≡◌};
-ghost use Rattle.header.specs.Link.{is_guest, side_of, offered, shared_set, passed, id_width};
+ghost use Rattle.header.specs.Link.{is_guest, side_of, shared_set, passed, id_width};
 ghost use Rattle.header.specs.Header.{header_of, header_number};
+ghost use Rattle.header.specs.Refusal.{number_of, number_in};
 
 use octets::{get, get32, has_bit};
 
@@ -13,25 +14,61 @@ pub const MAX_LENGTH: usize = 32768;
 // The least holding buffer: room for the longest header and the longest body.
 pub const HOLD_SIZE: usize = 16 + MAX_LENGTH;
 
-#[derive(Clone, Copy)]
+#[derive(Clone, Copy, Debug, PartialEq, Eq)]
 pub enum Side {
     Guest,
     Host,
 }
 
-// An end's hello: not passed yet, or passed with this first capability word (0 if it had none).
-#[derive(Clone, Copy)]
-pub enum HelloState {
-    Awaited,
-    Passed(u32),
+// Why a call passes no packet; each has its number.
+#[derive(Clone, Copy, Debug, PartialEq, Eq)]
+pub enum Refusal {
+    // of the session
+    Waiting = 2,
+    Stopped = 3,
+    // of the header
+    LengthTooLong = 10,
+    NoHelloYet = 11,
+    SecondHello = 12,
+    // of the packet
+    StreamsAlone = 13,
+    UnknownKind = 20,
+    WrongSender = 21,
+    NotShared = 22,
+    WrongSize = 23,
+    BadField = 24,
+    // of the packet in its session
+    NoDevice = 25,
+    OutOfOrder = 26,
+    AckOwed = 27,
+    WrongType = 28,
+    Settling = 29,
+    StreamClosed = 30,
+    IdInUse = 31,
+    TableFull = 32,
+    NoSuchRequest = 33,
+    ReplyTooLong = 34,
+    // of the call
+    OutputTooShort = 40,
+    HoldTooShort = 41,
+    Unfit = 43,
 }
 
-// One direction of a session as the wire checks see it: who sends, and both hellos.
+impl Refusal {
+    pub fn number(self) -> u8
+        ensures { result ≡ number_of self }
+    {
+        self as u8
+    }
+}
+
+// One direction of a session as the wire checks see it: who sends, and the first capability word of each hello that has
+// passed (0 if it had none).
 #[derive(Clone, Copy)]
 pub struct Link {
     pub sender: Side,
-    pub guest: HelloState,
-    pub host: HelloState,
+    pub guest: Option<u32>,
+    pub host: Option<u32>,
 }
 
 // A header as read: its kind, the body length that it says, its id, and its own size in bytes.
@@ -46,10 +83,7 @@ pub struct Header {
 pub fn is_guest(from: Side) -> bool
     ensures { result ≡ is_guest from }
 {
-    match from {
-        Side::Guest => true,
-        Side::Host => false,
-    }
+    from == Side::Guest
 }
 
 // The side of a number: 0 for the guest, any other for the host.
@@ -59,44 +93,26 @@ pub fn side_of(n: u8) -> Side
     if n == 0 { Side::Guest } else { Side::Host }
 }
 
-// The capability word that a hello has offered so far.
-pub fn offered(h: HelloState) -> u32
-    ensures { result ≡ offered h }
-{
-    match h {
-        HelloState::Awaited => 0,
-        HelloState::Passed(word) => word,
-    }
-}
-
 // Of bits 0 to 7 those that both hellos offered; none before both have passed.
 pub fn shared_set(l: Link) -> u32
     ensures { result ≡ shared_set l }
 {
-    let guest = l.guest;
-    let host = l.host;
-    offered(guest) & offered(host) & 255
+    l.guest.unwrap_or(0) & l.host.unwrap_or(0) & 255
 }
 
-pub fn has_passed(h: HelloState) -> bool
+pub fn has_passed(h: Option<u32>) -> bool
     ensures { result ≡ passed h }
 {
-    match h {
-        HelloState::Awaited => false,
-        HelloState::Passed(_) => true,
-    }
+    h.is_some()
 }
 
 // The sender's own hello has passed.
 pub fn own_hello_passed(l: Link) -> bool
     ensures { result ≡ passed (Rattle.header.specs.Link.own l) }
 {
-    let sender = l.sender;
-    let guest = l.guest;
-    let host = l.host;
-    match sender {
-        Side::Guest => has_passed(guest),
-        Side::Host => has_passed(host),
+    match l.sender {
+        Side::Guest => l.guest.is_some(),
+        Side::Host => l.host.is_some(),
     }
 }
 
@@ -127,17 +143,20 @@ pub fn read_header(l: Link, bytes: &[u8]) -> Header
     }
 }
 
-// 10, 11 or 12 where one holds, in that order, else 0.
-pub fn header_number(l: Link, kind: u32, length: usize) -> u8
-    ensures { result ≡ header_number l kind length }
+// Of 10, 11 and 12 the first that holds.
+pub fn check_header(l: Link, kind: u32, length: usize) -> Result<(), Refusal>
+    ensures { number_in result ≡ header_number l kind length }
 {
     let is_long = MAX_LENGTH < length;
     if is_long {
-        return 10;
+        return Err(Refusal::LengthTooLong);
     }
     if own_hello_passed(l) {
-        if kind == 0 { 12 } else { 0 }
-    } else {
-        if kind == 0 { 0 } else { 11 }
+        if kind == 0 {
+            return Err(Refusal::SecondHello);
+        }
+    } else if kind != 0 {
+        return Err(Refusal::NoHelloYet);
     }
+    Ok(())
 }

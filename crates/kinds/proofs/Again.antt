@@ -3,10 +3,10 @@
 -- By induction over the fields, the numbers of a field and the bytes of a number: each byte is below 256, so that the remainder by 256 gives it
 -- back and the quotient those behind it (`number-again`).
 -- Assumes nothing.
+use Rattle.std.specs.Prelude.{Some, None}
 use mathlib.Core.Path.{◌≡◌, refl, sym, ap, subst, ◌∙◌}
 use mathlib.Core.Bool.{Bool, true, false, cond}
 use mathlib.Core.List.{List, [], ◌∷◌, ◌++◌, append_assoc}
-use mathlib.Core.Option.{none, some}
 use Prim.Native.Nat.{ℕ, zero, suc, ◌+◌, ◌*◌, ◌/◌, ◌%◌, ◌≤◌, ◌<◌}
 use native.Mathlib.Nat.{zero-add, mul-suc, mul-zero, add_comm, not-suc-le-zero, le_of_suc-le-suc}
 use native.Mathlib.Omega.{arith}
@@ -66,7 +66,7 @@ numbers-again w (suc n) s b h =
 
 -- a field, there or not
 value-again : (t : Bool) (f : Field) (s : List ℕ) → Octets s → cond t (f.width * f.times) 0 ≤ length s
-    → bytes_of_value f.width (cond t (some (whole f s)) none) ++ drop (cond t (f.width * f.times) 0) s ≡ s
+    → bytes_of_value f.width (cond t (Some (whole f s)) None) ++ drop (cond t (f.width * f.times) 0) s ≡ s
 value-again true f s b h = rw (le-leb (f.width * f.times) (length s) h) (numbers-again f.width f.times s b h)
 value-again false f s b h = refl
 
@@ -79,7 +79,7 @@ again has (f ∷ fs) s b h =
     let g : size has fs ≤ length (drop k s) = rw (length-drop k s) (omega arith) in
     rw (
       sym (drop-drop (size has fs) k s),
-      append_assoc (bytes_of_value f.width (cond (has f.there) (some (whole f s)) none)) (bytes fs (split has fs (drop k s))) (drop (size has fs) (drop k s)),
+      append_assoc (bytes_of_value f.width (cond (has f.there) (Some (whole f s)) None)) (bytes fs (split has fs (drop k s))) (drop (size has fs) (drop k s)),
       again has fs (drop k s) (octets-drop k s b) g,
     )
     (value-again (has f.there) f s b l)

@@ -2,12 +2,12 @@
 -- No check reads a status: which fields are there and how many numbers they have stays, other fields are looked up under other names, and of
 -- the table's lines none has a rule for it (`found-unread`). What is written is as long.
 -- Assumes nothing.
+use Rattle.std.specs.Prelude.{Option, Some, None}
 use Prim.Native.Nat.{ℕ, zero, suc, ◌+◌, ◌*◌}
 use Prim.Native.String.{String}
 use mathlib.Core.Path.{◌≡◌, refl, sym, ap, ◌∙◌}
 use mathlib.Core.Bool.{Bool, true, false, cond, not, ◌&&◌, false≢true}
 use mathlib.Core.List.{List, [], ◌∷◌}
-use mathlib.Core.Option.{Option, none, some}
 use lib.ListN.{length, replicate, length-replicate, length-append}
 use lib.Text.{eqt}
 use borrow.Table.Steps.{cases}
@@ -66,7 +66,7 @@ all-unread : every_line unread kinds ≡ true
 unfolding kinds
 all-unread = refl
 
-found-unread : (n : ℕ) (k : Kind) → find n kinds ≡ some k → unread k.fields ≡ true
+found-unread : (n : ℕ) (k : Kind) → find n kinds ≡ Some k → unread k.fields ≡ true
 found-unread n k f = of-found unread refl n kinds k all-unread f
 
 -- ---- what a check asks of the fields stays
@@ -77,14 +77,14 @@ length-same x xs = length-replicate {A = ℕ} (length xs) x
 surplus-same : (x caps : ℕ) (fs : List Field) (vs : List Value) → surplus caps fs (status_in x fs vs) ≡ surplus caps fs vs
 surplus-same x caps [] vs = refl
 surplus-same x caps (f ∷ fs) [] = refl
-surplus-same x caps (f ∷ fs) (none ∷ vs) = cases (eqt "status" f.name) (λ t. rw t (surplus-same x caps fs vs)) (λ t. rw t (surplus-same x caps fs vs))
-surplus-same x caps (f ∷ fs) (some xs ∷ vs) = cases (eqt "status" f.name) (λ t. rw (t, surplus-same x caps fs vs)) (λ t. rw (t, surplus-same x caps fs vs))
+surplus-same x caps (f ∷ fs) (None ∷ vs) = cases (eqt "status" f.name) (λ t. rw t (surplus-same x caps fs vs)) (λ t. rw t (surplus-same x caps fs vs))
+surplus-same x caps (f ∷ fs) (Some xs ∷ vs) = cases (eqt "status" f.name) (λ t. rw (t, surplus-same x caps fs vs)) (λ t. rw (t, surplus-same x caps fs vs))
 
 complete-same : (x : ℕ) (fs : List Field) (vs : List Value) → complete fs (status_in x fs vs) ≡ complete fs vs
 complete-same x [] vs = refl
 complete-same x (f ∷ fs) [] = refl
-complete-same x (f ∷ fs) (none ∷ vs) = cases (eqt "status" f.name) (λ t. rw t (complete-same x fs vs)) (λ t. rw t (complete-same x fs vs))
-complete-same x (f ∷ fs) (some xs ∷ vs) = cases (eqt "status" f.name) (λ t. rw (t, length-same x xs, complete-same x fs vs)) (λ t. rw (t, complete-same x fs vs))
+complete-same x (f ∷ fs) (None ∷ vs) = cases (eqt "status" f.name) (λ t. rw t (complete-same x fs vs)) (λ t. rw t (complete-same x fs vs))
+complete-same x (f ∷ fs) (Some xs ∷ vs) = cases (eqt "status" f.name) (λ t. rw (t, length-same x xs, complete-same x fs vs)) (λ t. rw (t, complete-same x fs vs))
 
 -- what a check looks up by its name
 named-same : (n : String) → ((m : String) → eqt n m ≡ true → looked_up m ≡ true) → (x : ℕ) (fs : List Field) (vs : List Value) → unread fs ≡ true → named n fs (status_in x fs vs) ≡ named n fs vs
@@ -99,7 +99,7 @@ named-same n l x (f ∷ fs) (v ∷ vs) u =
     (λ t. rw t (named-same n l x fs vs h.1))
 
 -- a field under no rule breaks none
-none-bad : (r : Rule) → is_any r ≡ true → (from : Side) (caps e : ℕ) (xs : List ℕ) (w n i at : ℕ) → first_bad (holds r from caps e xs) w n i at ≡ none
+none-bad : (r : Rule) → is_any r ≡ true → (from : Side) (caps e : ℕ) (xs : List ℕ) (w n i at : ℕ) → first_bad (holds r from caps e xs) w n i at ≡ None
 none-bad r a from caps e xs w zero i at = refl
 none-bad r a from caps e xs w (suc n) i at = rw (any-holds r a from caps e xs i) (none-bad r a from caps e xs w n (suc i) (at + w))
 
@@ -114,8 +114,8 @@ bad-same from caps e x (f ∷ fs) (v ∷ vs) at u =
     (λ t. rw (t, rest))
   where
     first : (v : Value) → is_any f.rule ≡ true → bad_field from caps e f (replaced_by x v) at ≡ bad_field from caps e f v at
-    first none a = refl
-    first (some xs) a = none-bad f.rule a from caps e (replicate (length xs) x) f.width f.times 0 at ∙ sym (none-bad f.rule a from caps e xs f.width f.times 0 at)
+    first None a = refl
+    first (Some xs) a = none-bad f.rule a from caps e (replicate (length xs) x) f.width f.times 0 at ∙ sym (none-bad f.rule a from caps e xs f.width f.times 0 at)
 
 -- ---- the number stays
 
@@ -168,8 +168,8 @@ any-status l p x = go (find p.kind kinds) refl
   where
     go : (o : Option Kind) → find p.kind kinds ≡ o
         → by_kind l o (record { kind = p.kind; id = p.id; fields = status_in x (fields_of o) p.fields; rest = p.rest }) ≡ by_kind l o p
-    go none f = refl
-    go (some k) f = kind-same l k p x (found-unread p.kind k f)
+    go None f = refl
+    go (Some k) f = kind-same l k p x (found-unread p.kind k f)
 
 -- ---- and what is written is as long
 
@@ -182,8 +182,8 @@ bytes_same x (f ∷ fs) (v ∷ vs) =
     ∙ sym (length-append (bytes_of_value f.width v) (bytes fs vs))
   where
     first : (v : Value) → length (bytes_of_value f.width (replaced_by x v)) ≡ length (bytes_of_value f.width v)
-    first none = refl
-    first (some xs) = length-all f.width (replicate (length xs) x) ∙ ap (λ (n : ℕ). f.width * n) (length-same x xs) ∙ sym (length-all f.width xs)
+    first None = refl
+    first (Some xs) = length-all f.width (replicate (length xs) x) ∙ ap (λ (n : ℕ). f.width * n) (length-same x xs) ∙ sym (length-all f.width xs)
 
 body_same : (p : Content) (x : ℕ) → length (body_of (with_status x p)) ≡ length (body_of p)
 body_same p x =
@@ -215,8 +215,8 @@ unfolding layout
 kept p x = go (find p.kind kinds) refl
   where
     go : (o : Option Kind) → find p.kind kinds ≡ o → Kept (fields_of o) p.fields (status_in x (fields_of o) p.fields)
-    go none f = record { endpoint = refl; interface = refl; mask = refl; length = refl }
-    go (some k) f =
+    go None f = record { endpoint = refl; interface = refl; mask = refl; length = refl }
+    go (Some k) f =
         let u : unread k.fields ≡ true = found-unread p.kind k f in
         record {
           endpoint = endpoint-same x k.fields p.fields u;
@@ -227,9 +227,9 @@ kept p x = go (find p.kind kinds) refl
 
 -- whether there is a status
 abbrev is_filled : Value → Bool
-is_filled none = false
-is_filled (some []) = false
-is_filled (some (x ∷ xs)) = true
+is_filled None = false
+is_filled (Some []) = false
+is_filled (Some (x ∷ xs)) = true
 
 abbrev pub stated : List Field → List Value → Bool
 stated [] vs = false
@@ -242,9 +242,9 @@ status-is x (f ∷ fs) [] = refl
 status-is x (f ∷ fs) (v ∷ vs) = cases (eqt "status" f.name) (λ t. rw t (first v)) (λ t. rw t (status-is x fs vs))
   where
     first : (v : Value) → first_number (replaced_by x v) ≡ cond (is_filled v) x 0
-    first none = refl
-    first (some []) = refl
-    first (some (y ∷ ys)) = refl
+    first None = refl
+    first (Some []) = refl
+    first (Some (y ∷ ys)) = refl
 
 -- where no field is a status, none is replaced
 pub none-replaced : (x : ℕ) (fs : List Field) (vs : List Value) → has_status fs ≡ false → status_in x fs vs ≡ vs

@@ -4,10 +4,10 @@
 -- Of what is read: all of it is there exactly where the bytes are no fewer than the layout says (`complete-split`); then each field is read where
 -- it stands (`split-full`); and what is read off bytes fits (`fitting-split`).
 -- Assumes nothing.
+use Rattle.std.specs.Prelude.{Option, Some, None}
 use mathlib.Core.Path.{◌≡◌, refl, sym, ap, subst, ◌∙◌}
 use mathlib.Core.Bool.{Bool, true, false, cond, not, ◌&&◌, false≢true}
 use mathlib.Core.List.{List, [], ◌∷◌, ◌++◌, append_assoc}
-use mathlib.Core.Option.{Option, none, some}
 use Prim.Native.Nat.{ℕ, zero, suc, ◌+◌, ◌-◌, ◌*◌, ◌^◌, ◌≤◌, ◌<◌}
 use native.Mathlib.Nat.{add_assoc, add-zero, zero-add, add-suc, suc-add, mul-zero, mul-suc, add_comm}
 use native.Mathlib.Omega.{arith}
@@ -27,20 +27,20 @@ use Rattle.kinds.specs.Codec.{Below, Fitting}
 -- ---- tests
 
 pub is_none-left : (x y : Option ℕ) → is_none (or_else x y) ≡ true → is_none x ≡ true
-is_none-left none y e = refl
-is_none-left (some a) y e = e
+is_none-left None y e = refl
+is_none-left (Some a) y e = e
 
 pub is_none-right : (x y : Option ℕ) → is_none (or_else x y) ≡ true → is_none y ≡ true
-is_none-right none y e = e
-is_none-right (some a) y e = absurd (false≢true e)
+is_none-right None y e = e
+is_none-right (Some a) y e = absurd (false≢true e)
 
 -- ---- values that fit their fields, as the layout `has` has them
 
 abbrev pub FitField : Bool → ℕ → ℕ → Value → Type 0
-FitField true w n none = ⊥
-FitField true w n (some xs) = (length xs ≡ n) × Below w xs
-FitField false w n none = Unit {0}
-FitField false w n (some xs) = ⊥
+FitField true w n None = ⊥
+FitField true w n (Some xs) = (length xs ≡ n) × Below w xs
+FitField false w n None = Unit {0}
+FitField false w n (Some xs) = ⊥
 
 abbrev pub Fit : (Bits → Bool) → List Field → List Value → Type 0
 Fit has [] [] = Unit {0}
@@ -48,11 +48,11 @@ Fit has [] (v ∷ vs) = ⊥
 Fit has (f ∷ fs) [] = ⊥
 Fit has (f ∷ fs) (v ∷ vs) = FitField (has f.there) f.width f.times v × Fit has fs vs
 
-missing-none : (b : Bool) (w n at : ℕ) → is_none (cond b (some at) none) ≡ true → FitField b w n none
+missing-none : (b : Bool) (w n at : ℕ) → is_none (cond b (Some at) None) ≡ true → FitField b w n None
 missing-none true w n at e = absurd (false≢true e)
 missing-none false w n at e = tt
 
-present-some : (b : Bool) (w n : ℕ) (xs : List ℕ) → Below w xs → not b ≡ false → eqb (length xs) n ≡ true → FitField b w n (some xs)
+present-some : (b : Bool) (w n : ℕ) (xs : List ℕ) → Below w xs → not b ≡ false → eqb (length xs) n ≡ true → FitField b w n (Some xs)
 present-some true w n xs t s c = (eqb-true (length xs) n c, t)
 present-some false w n xs t s c = absurd (false≢true (sym s))
 
@@ -62,12 +62,12 @@ pub fit : (from : Side) (caps e : ℕ) (fs : List Field) (vs : List Value) (at :
 fit from caps e [] [] at t c s b = tt
 fit from caps e [] (v ∷ vs) at t c s b = absurd t
 fit from caps e (f ∷ fs) [] at t c s b = absurd t
-fit from caps e (f ∷ fs) (none ∷ vs) at t c s b =
-    let x : Option ℕ = cond (shared caps f.there) (some at) none in
+fit from caps e (f ∷ fs) (None ∷ vs) at t c s b =
+    let x : Option ℕ = cond (shared caps f.there) (Some at) None in
     let y : Option ℕ = bad_fields from caps e fs vs (at + size_of (shared caps) f) in
     (missing-none (shared caps f.there) f.width f.times at (is_none-left x y b), fit from caps e fs vs (at + size_of (shared caps) f) t c s (is_none-right x y b))
-fit from caps e (f ∷ fs) (some xs ∷ vs) at t c s b =
-    let x : Option ℕ = bad_field from caps e f (some xs) at in
+fit from caps e (f ∷ fs) (Some xs ∷ vs) at t c s b =
+    let x : Option ℕ = bad_field from caps e f (Some xs) at in
     let y : Option ℕ = bad_fields from caps e fs vs (at + size_of (shared caps) f) in (
       present-some (shared caps f.there) f.width f.times xs t.0 (or_parts (not (shared caps f.there)) (surplus caps fs vs) s).0
           (and_parts (eqb (length xs) f.times) (complete fs vs) c).0,
@@ -103,21 +103,21 @@ length-all w (x ∷ xs) = rw (length-append, length-bytes w x, length-all w xs, 
 -- ---- one field
 
 value-size : (b : Bool) (w n : ℕ) (v : Value) → FitField b w n v → length (bytes_of_value w v) ≡ cond b (w * n) 0
-value-size true w n none h = absurd h
-value-size true w n (some xs) h = length-all w xs ∙ ap (λ (m : ℕ). w * m) h.0
-value-size false w n none h = refl
-value-size false w n (some xs) h = absurd h
+value-size true w n None h = absurd h
+value-size true w n (Some xs) h = length-all w xs ∙ ap (λ (m : ℕ). w * m) h.0
+value-size false w n None h = refl
+value-size false w n (Some xs) h = absurd h
 
-value-back : (b : Bool) (f : Field) (v : Value) (r : List ℕ) → FitField b f.width f.times v → cond b (some (whole f (bytes_of_value f.width v ++ r))) none ≡ v
-value-back true f none r h = absurd h
-value-back true f (some xs) r h =
+value-back : (b : Bool) (f : Field) (v : Value) (r : List ℕ) → FitField b f.width f.times v → cond b (Some (whole f (bytes_of_value f.width v ++ r))) None ≡ v
+value-back true f None r h = absurd h
+value-back true f (Some xs) r h =
     let w : ℕ = f.width in
     let e : length (bytes_of_all w xs) ≡ w * f.times = length-all w xs ∙ ap (λ (m : ℕ). w * m) h.0 in
     let l : w * f.times ≤ length (bytes_of_all w xs ++ r) = omega (arith, e, length-append (bytes_of_all w xs) r) in
     rw (le-leb (w * f.times) (length (bytes_of_all w xs ++ r)) l)
-    (ap some (subst (λ (m : ℕ). numbers w m (bytes_of_all w xs ++ r) 0 ≡ xs) h.0 (numbers-back w xs r h.1)))
-value-back false f none r h = refl
-value-back false f (some xs) r h = absurd h
+    (ap Some (subst (λ (m : ℕ). numbers w m (bytes_of_all w xs ++ r) 0 ≡ xs) h.0 (numbers-back w xs r h.1)))
+value-back false f None r h = refl
+value-back false f (Some xs) r h = absurd h
 
 -- ---- the fields
 
@@ -197,7 +197,7 @@ complete-split has (f ∷ fs) s = go (has f.there) refl (complete-split has fs (
 -- the fields that stand in s from a place on, each read where it stands
 abbrev values_at : (Bits → Bool) → List Field → List ℕ → ℕ → List Value
 values_at has [] s at = []
-values_at has (f ∷ fs) s at = cond (has f.there) (some (numbers f.width f.times s at)) none ∷ values_at has fs s (at + size_of has f)
+values_at has (f ∷ fs) s at = cond (has f.there) (Some (numbers f.width f.times s at)) None ∷ values_at has fs s (at + size_of has f)
 
 numbers-drop : (w n k : ℕ) (s : List ℕ) → k ≤ length s → numbers w n (drop k s) 0 ≡ numbers w n s k
 numbers-drop w n k s h = sym (numbers_after w n k (take k s) (drop k s) (length-take-le k s h)) ∙ ap (λ (r : List ℕ). numbers w n r k) (take-append-drop k s)
@@ -211,13 +211,13 @@ split_from has (f ∷ fs) s k l h =
     let e : drop n (drop k s) ≡ drop (k + n) s = drop-drop n k s in
     let m : size has fs ≤ length (drop (k + n) s) = rw (length-drop (k + n) s) (omega arith) in
     let ih : split has fs (drop (k + n) s) ≡ values_at has fs s (k + n) = split_from has fs s (k + n) (omega arith) m in
-    let v : cond (has f.there) (some (whole f (drop k s))) none ≡ cond (has f.there) (some (numbers f.width f.times s k)) none =
+    let v : cond (has f.there) (Some (whole f (drop k s))) None ≡ cond (has f.there) (Some (numbers f.width f.times s k)) None =
     read-there (has f.there) f s k l (omega arith) in
     rw (e, ih, v)
   where
     read-there : (b : Bool) (g : Field) (t : List ℕ) (j : ℕ) → j ≤ length t → cond b (g.width * g.times) 0 ≤ length (drop j t)
-        → cond b (some (whole g (drop j t))) none ≡ cond b (some (numbers g.width g.times t j)) none
-    read-there true g t j a z = rw (le-leb (g.width * g.times) (length (drop j t)) z) (ap some (numbers-drop g.width g.times j t a))
+        → cond b (Some (whole g (drop j t))) None ≡ cond b (Some (numbers g.width g.times t j)) None
+    read-there true g t j a z = rw (le-leb (g.width * g.times) (length (drop j t)) z) (ap Some (numbers-drop g.width g.times j t a))
     read-there false g t j a z = refl
 
 pub split-full : (has : Bits → Bool) (fs : List Field) (s : List ℕ) → size has fs ≤ length s → split has fs s ≡ values_at has fs s 0
@@ -240,15 +240,15 @@ pub fitting-split : (has : Bits → Bool) (fs : List Field) (s : List ℕ) → (
 fitting-split has [] s b = tt
 fitting-split has (f ∷ fs) s b = go (has f.there) (fitting-split has fs (drop (size_of has f) s) (λ k. rw (get_or-drop (size_of has f) s k 0) (b (size_of has f + k))))
   where
-    go : (t : Bool) → Fitting fs (split has fs (drop (size_of has f) s)) → Fitting (f ∷ fs) (cond t (some (whole f s)) none ∷ split has fs (drop (size_of has f) s))
+    go : (t : Bool) → Fitting fs (split has fs (drop (size_of has f) s)) → Fitting (f ∷ fs) (cond t (Some (whole f s)) None ∷ split has fs (drop (size_of has f) s))
     go true ih = (below-whole f s b, ih)
     go false ih = ih
 
 pub fitting-append : (fs : List Field) (vs ws : List Value) → Fitting (take (length vs) fs) vs → Fitting (drop (length vs) fs) ws → Fitting fs (vs ++ ws)
 fitting-append fs [] ws h k = k
 fitting-append [] (v ∷ vs) ws h k = absurd h
-fitting-append (f ∷ fs) (none ∷ vs) ws h k = fitting-append fs vs ws h k
-fitting-append (f ∷ fs) (some xs ∷ vs) ws h k = (h.0, fitting-append fs vs ws h.1 k)
+fitting-append (f ∷ fs) (None ∷ vs) ws h k = fitting-append fs vs ws h k
+fitting-append (f ∷ fs) (Some xs ∷ vs) ws h k = (h.0, fitting-append fs vs ws h.1 k)
 
 -- ---- ids
 
@@ -267,7 +267,7 @@ each-good ok w zero i at e k h = absurd (omega arith)
 each-good ok w (suc n) i at e k h = go k h (good (ok i) e) (each-good ok w n (suc i) (at + w))
   where
     -- the first number keeps it, and so do those behind it
-    good : (b : Bool) → is_none (cond b (first_bad ok w n (suc i) (at + w)) (some at)) ≡ true → (b ≡ true) × (is_none (first_bad ok w n (suc i) (at + w)) ≡ true)
+    good : (b : Bool) → is_none (cond b (first_bad ok w n (suc i) (at + w)) (Some at)) ≡ true → (b ≡ true) × (is_none (first_bad ok w n (suc i) (at + w)) ≡ true)
     good true t = (refl, t)
     good false t = absurd (false≢true t)
 
@@ -277,8 +277,8 @@ each-good ok w (suc n) i at e k h = go k h (good (ok i) e) (each-good ok w n (su
     go (suc k) l g ih = rw (add-suc i k, ← suc-add i k) (ih g.1 k (omega arith))
 
 -- where no field breaks its rule, each number of the first keeps it
-pub first_good : (from : Side) (caps e : ℕ) (f : Field) (fs : List Field) (xs : List ℕ) (vs : List Value) (at : ℕ) → is_none (bad_fields from caps e (f ∷ fs) (some xs ∷ vs) at) ≡ true
+pub first_good : (from : Side) (caps e : ℕ) (f : Field) (fs : List Field) (xs : List ℕ) (vs : List Value) (at : ℕ) → is_none (bad_fields from caps e (f ∷ fs) (Some xs ∷ vs) at) ≡ true
     → (k : ℕ) → k < f.times → holds f.rule from caps e xs k ≡ true
 first_good from caps e f fs xs vs at b k h =
-    let good = is_none-left (bad_field from caps e f (some xs) at) (bad_fields from caps e fs vs (at + size_of (shared caps) f)) b in
+    let good = is_none-left (bad_field from caps e f (Some xs) at) (bad_fields from caps e fs vs (at + size_of (shared caps) f)) b in
     rw (← zero-add k) (each-good (holds f.rule from caps e xs) f.width f.times 0 at good k h)

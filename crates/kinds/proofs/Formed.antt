@@ -2,13 +2,14 @@
 -- first that fails.
 -- The tests over fields are by induction over the line and the packet's values; those of a number are cases of its rule.
 -- Assumes nothing.
+use Rattle.std.specs.Prelude.{Option, Some, None}
 use Prim.Native.Nat.{ℕ, zero, suc, ◌+◌, ◌*◌, ◌/◌, ◌%◌, ◌^◌, ◌≤◌, ◌<◌}
 use native.Mathlib.Nat.{add-zero, zero-add, add-suc, suc-add, not-suc-le-zero, le_of_suc-le-suc, div-eq_of_lt, lt_of_lt_of_le}
 use native.Mathlib.Omega.{arith}
 use mathlib.Core.Bool.{Bool, true, false, cond, not, ◌&&◌, ◌||◌, true≢false, false≢true}
 use mathlib.Core.List.{List, [], ◌∷◌}
 use mathlib.Core.Logic.{◌↔◌, ◌⊎◌, inl, inr}
-use mathlib.Core.Option.{Option, none, some, none-ne-some, some-injective}
+use Rattle.std.proofs.lemmas.Option.{none-some, same_Some}
 use mathlib.Core.Path.{◌≡◌, refl, sym, ap, subst, ◌∙◌}
 use lib.ListN.{length, get_or}
 use lib.Dec.{eqb, leb, lit<}
@@ -22,8 +23,6 @@ use Rattle.octets.specs.Bits.{has_bit}
 use Rattle.octets.proofs.Logic.{and_parts, and-whole, or_parts, or-none, fails, failing, false-not, true-not}
 use Rattle.header.specs.declared.Side.{Side}
 use Rattle.header.specs.declared.Side.TheVariants.{Guest, Host}
-use Rattle.header.specs.declared.HelloState.{HelloState}
-use Rattle.header.specs.declared.HelloState.TheVariants.{Awaited, Passed}
 use Rattle.header.specs.declared.Link.{Link}
 use Rattle.header.specs.Link.{is_guest, offered, shared_set, id_width}
 use Rattle.kinds.specs.Table.{Sender, G, H, B, Bits, always, bit, bits, Rule, any, holding-zero, speed, at-most-32, endpoint-type, endpoint, endpoint-in, endpoint-onward, endpoint-out-of-guest, as-endpoint, nonzero, zero-without, Field, Tail, nothing, words, string, payload, payload-onward, Id, id-any, id-zero, Kind, kinds, none_such, u8}
@@ -37,30 +36,30 @@ use Rattle.kinds.specs.Formed.{Line, Sends, Shared, Sharing, endpoint_byte, coun
 -- ---- 20
 
 -- what is found stands in the list under that number
-found_at : (n : ℕ) (ks : List Kind) (k : Kind) → find n ks ≡ some k → (i : ℕ) × (i < length ks) × (get_or ks i none_such ≡ k) × (k.number ≡ n)
-found_at n [] k e = absurd (none-ne-some _ e)
+found_at : (n : ℕ) (ks : List Kind) (k : Kind) → find n ks ≡ Some k → (i : ℕ) × (i < length ks) × (get_or ks i none_such ≡ k) × (k.number ≡ n)
+found_at n [] k e = absurd (none-some _ e)
 found_at n (r ∷ rs) k e = cases (eqb n r.number) here (λ t. there (found_at n rs k (rw t at e)))
   where
     here : eqb n r.number ≡ true → (i : ℕ) × (i < length (r ∷ rs)) × (get_or (r ∷ rs) i none_such ≡ k) × (k.number ≡ n)
     here t =
-        let q : r ≡ k = some-injective _ _ (rw t at e) in
+        let q : r ≡ k = same_Some _ _ (rw t at e) in
         (0, omega arith, q, ap (λ (x : Kind). x.number) (sym q) ∙ sym (eqb-true n r.number t))
 
     there : (i : ℕ) × (i < length rs) × (get_or rs i none_such ≡ k) × (k.number ≡ n) → (i : ℕ) × (i < length (r ∷ rs)) × (get_or (r ∷ rs) i none_such ≡ k) × (k.number ≡ n)
     there h = (suc h.0, omega (arith, h.1), h.2, h.3)
 
-line_of : (p : Content) (k : Kind) → find p.kind kinds ≡ some k → Line p k
+line_of : (p : Content) (k : Kind) → find p.kind kinds ≡ Some k → Line p k
 unfolding kinds
 line_of p k e =
     let h = found_at p.kind kinds k e in
     record { slot = h.0; listed = h.1; line = h.2; number = h.3 }
 
-of-line : (p : Content) (k : Kind) → Line p k → find p.kind kinds ≡ some k
+of-line : (p : Content) (k : Kind) → Line p k → find p.kind kinds ≡ Some k
 of-line p k h =
-    ap (λ (n : ℕ). find n kinds) (sym h.number ∙ ap (λ (x : Kind). x.number) (sym h.line)) ∙ found h.slot h.listed ∙ ap some h.line
+    ap (λ (n : ℕ). find n kinds) (sym h.number ∙ ap (λ (x : Kind). x.number) (sym h.line)) ∙ found h.slot h.listed ∙ ap Some h.line
 
 pub one-table-line : OneTableLine
-one-table-line p k m a b = some-injective _ _ (sym (of-line p k a) ∙ of-line p m b)
+one-table-line p k m a b = same_Some _ _ (sym (of-line p k a) ∙ of-line p m b)
 
 -- ---- 21
 
@@ -86,23 +85,23 @@ shared-is caps (bits j k) = (and_parts (has_bit caps j) (has_bit caps k), λ e. 
 
 -- the fields that are there are shared
 abbrev AllShared : ℕ → List Field → List Value → Type 0
-AllShared caps fs vs = (i : ℕ) → i < length fs → (xs : List ℕ) → get_or vs i none ≡ some xs → Shared caps (get_or fs i (u8 "")).there
+AllShared caps fs vs = (i : ℕ) → i < length fs → (xs : List ℕ) → get_or vs i None ≡ Some xs → Shared caps (get_or fs i (u8 "")).there
 
 surplus-none : (caps : ℕ) (fs : List Field) (vs : List Value) → surplus caps fs vs ≡ false → AllShared caps fs vs
 surplus-none caps [] vs e i h xs t = absurd (not-suc-le-zero h)
-surplus-none caps (f ∷ fs) [] e i h xs t = absurd (none-ne-some _ t)
-surplus-none caps (f ∷ fs) (none ∷ vs) e zero h xs t = absurd (none-ne-some _ t)
-surplus-none caps (f ∷ fs) (none ∷ vs) e (suc i) h xs t = surplus-none caps fs vs e i (le_of_suc-le-suc h) xs t
-surplus-none caps (f ∷ fs) (some ys ∷ vs) e zero h xs t =
+surplus-none caps (f ∷ fs) [] e i h xs t = absurd (none-some _ t)
+surplus-none caps (f ∷ fs) (None ∷ vs) e zero h xs t = absurd (none-some _ t)
+surplus-none caps (f ∷ fs) (None ∷ vs) e (suc i) h xs t = surplus-none caps fs vs e i (le_of_suc-le-suc h) xs t
+surplus-none caps (f ∷ fs) (Some ys ∷ vs) e zero h xs t =
     (shared-is caps f.there).0 (not-false (shared caps f.there) (or_parts (not (shared caps f.there)) (surplus caps fs vs) e).0)
-surplus-none caps (f ∷ fs) (some ys ∷ vs) e (suc i) h xs t =
+surplus-none caps (f ∷ fs) (Some ys ∷ vs) e (suc i) h xs t =
     surplus-none caps fs vs (or_parts (not (shared caps f.there)) (surplus caps fs vs) e).1 i (le_of_suc-le-suc h) xs t
 
 none-surplus : (caps : ℕ) (fs : List Field) (vs : List Value) → AllShared caps fs vs → surplus caps fs vs ≡ false
 none-surplus caps [] vs a = refl
 none-surplus caps (f ∷ fs) [] a = refl
-none-surplus caps (f ∷ fs) (none ∷ vs) a = none-surplus caps fs vs (λ i h xs t. a (suc i) (omega (arith, h)) xs t)
-none-surplus caps (f ∷ fs) (some ys ∷ vs) a =
+none-surplus caps (f ∷ fs) (None ∷ vs) a = none-surplus caps fs vs (λ i h xs t. a (suc i) (omega (arith, h)) xs t)
+none-surplus caps (f ∷ fs) (Some ys ∷ vs) a =
     or-none (not (shared caps f.there)) (surplus caps fs vs)
     (false-not (shared caps f.there) ((shared-is caps f.there).1 (a 0 (omega arith) ys refl)))
     (none-surplus caps fs vs (λ i h xs t. a (suc i) (omega (arith, h)) xs t))
@@ -167,10 +166,10 @@ sharing-is l k p = (holds-so, so-holds)
 -- ---- 23
 
 abbrev AllWhole : List Field → List Value → Type 0
-AllWhole fs vs = (i : ℕ) → i < length fs → (xs : List ℕ) → get_or vs i none ≡ some xs → length xs ≡ (get_or fs i (u8 "")).times
+AllWhole fs vs = (i : ℕ) → i < length fs → (xs : List ℕ) → get_or vs i None ≡ Some xs → length xs ≡ (get_or fs i (u8 "")).times
 
 -- the first field and then the others
-whole-cons : (f : Field) (fs : List Field) (v : Value) (vs : List Value) → ((xs : List ℕ) → v ≡ some xs → length xs ≡ f.times) → (length fs ≤ length vs) × AllWhole fs vs
+whole-cons : (f : Field) (fs : List Field) (v : Value) (vs : List Value) → ((xs : List ℕ) → v ≡ Some xs → length xs ≡ f.times) → (length fs ≤ length vs) × AllWhole fs vs
     → (length (f ∷ fs) ≤ length (v ∷ vs)) × AllWhole (f ∷ fs) (v ∷ vs)
 whole-cons f fs v vs w r = (omega (arith, r.0), at)
   where
@@ -181,16 +180,16 @@ whole-cons f fs v vs w r = (omega (arith, r.0), at)
 complete-all : (fs : List Field) (vs : List Value) → complete fs vs ≡ true → (length fs ≤ length vs) × AllWhole fs vs
 complete-all [] vs e = (omega arith, λ i h xs t. absurd (not-suc-le-zero h))
 complete-all (f ∷ fs) [] e = absurd (false≢true e)
-complete-all (f ∷ fs) (none ∷ vs) e = whole-cons f fs none vs (λ xs t. absurd (none-ne-some _ t)) (complete-all fs vs e)
-complete-all (f ∷ fs) (some ys ∷ vs) e =
+complete-all (f ∷ fs) (None ∷ vs) e = whole-cons f fs None vs (λ xs t. absurd (none-some _ t)) (complete-all fs vs e)
+complete-all (f ∷ fs) (Some ys ∷ vs) e =
     let h = and_parts (eqb (length ys) f.times) (complete fs vs) e in
-    whole-cons f fs (some ys) vs (λ xs t. ap length (sym (some-injective _ _ t)) ∙ eqb-true (length ys) f.times h.0) (complete-all fs vs h.1)
+    whole-cons f fs (Some ys) vs (λ xs t. ap length (sym (same_Some _ _ t)) ∙ eqb-true (length ys) f.times h.0) (complete-all fs vs h.1)
 
 all-complete : (fs : List Field) (vs : List Value) → length fs ≤ length vs → AllWhole fs vs → complete fs vs ≡ true
 all-complete [] vs n a = refl
 all-complete (f ∷ fs) [] n a = absurd (not-suc-le-zero n)
-all-complete (f ∷ fs) (none ∷ vs) n a = all-complete fs vs (le_of_suc-le-suc n) (λ i h xs t. a (suc i) (omega (arith, h)) xs t)
-all-complete (f ∷ fs) (some ys ∷ vs) n a =
+all-complete (f ∷ fs) (None ∷ vs) n a = all-complete fs vs (le_of_suc-le-suc n) (λ i h xs t. a (suc i) (omega (arith, h)) xs t)
+all-complete (f ∷ fs) (Some ys ∷ vs) n a =
     and-whole (eqb (length ys) f.times) (complete fs vs) (eq-eqb (length ys) f.times (a 0 (omega arith) ys refl))
     (all-complete fs vs (le_of_suc-le-suc n) (λ i h xs t. a (suc i) (omega (arith, h)) xs t))
 
@@ -251,10 +250,10 @@ not-six caps (bits j k) z e s = false≢true e
 no-high : (caps : ℕ) (fs : List Field) (vs : List Value) → line_fits fs ≡ true → has_bit caps 6 ≡ false → AllShared caps fs vs → named "length high" fs vs ≡ 0
 no-high caps [] vs s z a = refl
 no-high caps (f ∷ fs) [] s z a = refl
-no-high caps (f ∷ fs) (none ∷ vs) s z a =
+no-high caps (f ∷ fs) (None ∷ vs) s z a =
     let h = fits-first f fs s in
     cases (eqt "length high" f.name) (λ t. rw t refl) (λ t. rw t (no-high caps fs vs h.2 z (λ i g xs q. a (suc i) (omega (arith, g)) xs q)))
-no-high caps (f ∷ fs) (some ys ∷ vs) s z a =
+no-high caps (f ∷ fs) (Some ys ∷ vs) s z a =
     let h = fits-first f fs s in
     cases (eqt "length high" f.name)
     (λ t. absurd (not-six caps f.there z (rw t at h.0) (a 0 (omega arith) ys refl)))
@@ -460,19 +459,19 @@ good-all ok w (suc n) i at a =
     rw t (good-all ok w n (suc i) (at + w) (λ k h. rw (suc-add i k, ← add-suc i k) (a (suc k) (omega (arith, h)))))
 
 none_both : (x y : Option ℕ) → is_none x ≡ true → is_none y ≡ true → is_none (or_else x y) ≡ true
-none_both none y e f = f
-none_both (some a) y e f = e
+none_both None y e f = f
+none_both (Some a) y e f = e
 
 -- all fields
 abbrev AllThere : ℕ → List Field → List Value → Type 0
-AllThere caps fs vs = (i : ℕ) → i < length fs → Shared caps (get_or fs i (u8 "")).there → (xs : List ℕ) × (get_or vs i none ≡ some xs)
+AllThere caps fs vs = (i : ℕ) → i < length fs → Shared caps (get_or fs i (u8 "")).there → (xs : List ℕ) × (get_or vs i None ≡ Some xs)
 
 abbrev AllKept : Side → ℕ → ℕ → List Field → List Value → Type 0
 AllKept from caps e fs vs =
-    (i : ℕ) → i < length fs → (xs : List ℕ) → get_or vs i none ≡ some xs → (j : ℕ) → j < (get_or fs i (u8 "")).times → Keeps (get_or fs i (u8 "")).rule from caps e xs j
+    (i : ℕ) → i < length fs → (xs : List ℕ) → get_or vs i None ≡ Some xs → (j : ℕ) → j < (get_or fs i (u8 "")).times → Keeps (get_or fs i (u8 "")).rule from caps e xs j
 
 module _ (from : Side) (caps e : ℕ) where
-  missing : (f : Field) (at : ℕ) → is_none (cond (shared caps f.there) (some at) none) ≡ true → Shared caps f.there → ⊥
+  missing : (f : Field) (at : ℕ) → is_none (cond (shared caps f.there) (Some at) None) ≡ true → Shared caps f.there → ⊥
   missing f at b s = false≢true (rw ((shared-is caps f.there).1 s) at b)
 
   -- nothing is bad in the first field, and nothing in the others
@@ -486,28 +485,28 @@ module _ (from : Side) (caps e : ℕ) where
   bad-there : (fs : List Field) (vs : List Value) (at : ℕ) → length fs ≤ length vs → is_none (bad_fields from caps e fs vs at) ≡ true → AllThere caps fs vs
   bad-there [] vs at n b i h s = absurd (not-suc-le-zero h)
   bad-there (f ∷ fs) [] at n b i h s = absurd (not-suc-le-zero n)
-  bad-there (f ∷ fs) (none ∷ vs) at n b zero h s = absurd (missing f at (first-none f fs none vs at b) s)
-  bad-there (f ∷ fs) (some ys ∷ vs) at n b zero h s = (ys, refl)
+  bad-there (f ∷ fs) (None ∷ vs) at n b zero h s = absurd (missing f at (first-none f fs None vs at b) s)
+  bad-there (f ∷ fs) (Some ys ∷ vs) at n b zero h s = (ys, refl)
   bad-there (f ∷ fs) (v ∷ vs) at n b (suc i) h s = bad-there fs vs (at + size_of (shared caps) f) (le_of_suc-le-suc n) (others-none f fs v vs at b) i (le_of_suc-le-suc h) s
 
   bad-kept : (fs : List Field) (vs : List Value) (at : ℕ) → line_fits fs ≡ true → is_none (bad_fields from caps e fs vs at) ≡ true → AllKept from caps e fs vs
   bad-kept [] vs at w b i h xs t = absurd (not-suc-le-zero h)
-  bad-kept (f ∷ fs) [] at w b i h xs t = absurd (none-ne-some _ t)
-  bad-kept (f ∷ fs) (none ∷ vs) at w b zero h xs t = absurd (none-ne-some _ t)
-  bad-kept (f ∷ fs) (some ys ∷ vs) at w b zero h xs t = λ j g.
-      let k = all-good (holds f.rule from caps e ys) f.width f.times 0 at (first-none f fs (some ys) vs at b) j g in
-      subst (λ (zs : List ℕ). Keeps f.rule from caps e zs j) (some-injective _ _ t) ((keeps-is f.rule from caps e ys j f.times g (fits-first f fs w).1).0 (rw (← zero-add j) k))
+  bad-kept (f ∷ fs) [] at w b i h xs t = absurd (none-some _ t)
+  bad-kept (f ∷ fs) (None ∷ vs) at w b zero h xs t = absurd (none-some _ t)
+  bad-kept (f ∷ fs) (Some ys ∷ vs) at w b zero h xs t = λ j g.
+      let k = all-good (holds f.rule from caps e ys) f.width f.times 0 at (first-none f fs (Some ys) vs at b) j g in
+      subst (λ (zs : List ℕ). Keeps f.rule from caps e zs j) (same_Some _ _ t) ((keeps-is f.rule from caps e ys j f.times g (fits-first f fs w).1).0 (rw (← zero-add j) k))
   bad-kept (f ∷ fs) (v ∷ vs) at w b (suc i) h xs t = bad-kept fs vs (at + size_of (shared caps) f) (fits-first f fs w).2 (others-none f fs v vs at b) i (le_of_suc-le-suc h) xs t
 
   good-fields : (fs : List Field) (vs : List Value) (at : ℕ) → line_fits fs ≡ true → AllThere caps fs vs → AllKept from caps e fs vs → is_none (bad_fields from caps e fs vs at) ≡ true
   good-fields [] vs at w a k = refl
   good-fields (f ∷ fs) [] at w a k = refl
-  good-fields (f ∷ fs) (none ∷ vs) at w a k =
-      none_both (bad_field from caps e f none at) (bad_fields from caps e fs vs (at + size_of (shared caps) f))
-      (cases (shared caps f.there) (λ t. absurd (none-ne-some _ (a 0 (omega arith) ((shared-is caps f.there).0 t)).1)) (λ t. rw t refl))
+  good-fields (f ∷ fs) (None ∷ vs) at w a k =
+      none_both (bad_field from caps e f None at) (bad_fields from caps e fs vs (at + size_of (shared caps) f))
+      (cases (shared caps f.there) (λ t. absurd (none-some _ (a 0 (omega arith) ((shared-is caps f.there).0 t)).1)) (λ t. rw t refl))
       (good-fields fs vs (at + size_of (shared caps) f) (fits-first f fs w).2 (λ i h. a (suc i) (omega (arith, h))) (λ i h. k (suc i) (omega (arith, h))))
-  good-fields (f ∷ fs) (some ys ∷ vs) at w a k =
-      none_both (bad_field from caps e f (some ys) at) (bad_fields from caps e fs vs (at + size_of (shared caps) f))
+  good-fields (f ∷ fs) (Some ys ∷ vs) at w a k =
+      none_both (bad_field from caps e f (Some ys) at) (bad_fields from caps e fs vs (at + size_of (shared caps) f))
       (good-all (holds f.rule from caps e ys) f.width f.times 0 at (λ j g. rw (zero-add j) ((keeps-is f.rule from caps e ys j f.times g (fits-first f fs w).1).1 (k 0 (omega arith) ys refl j g))))
       (good-fields fs vs (at + size_of (shared caps) f) (fits-first f fs w).2 (λ i h. a (suc i) (omega (arith, h))) (λ i h. k (suc i) (omega (arith, h))))
 
@@ -533,7 +532,7 @@ no_words : (t : Tail) → is_words t ≡ false → t ≡ words → ⊥
 no_words t e q = true≢false (sym (ap is_words q) ∙ e)
 
 -- nothing is bad exactly where the test holds
-found_none : (b : Bool) (at : ℕ) → (is_none (cond b none (some at)) ≡ true) ↔ (b ≡ true)
+found_none : (b : Bool) (at : ℕ) → (is_none (cond b None (Some at)) ≡ true) ↔ (b ≡ true)
 found_none true at = (λ e. refl, λ e. refl)
 found_none false at = (λ e. e, λ e. e)
 
@@ -677,16 +676,16 @@ module _ (l : Link) (p : Content) where
   some-line n z e = go (find p.kind kinds) refl e
     where
       go : (o : Option Kind) → find p.kind kinds ≡ o → by_kind l o p ≡ n → (k : Kind) × Line p k × (kind_number l k p ≡ n)
-      go none f q = absurd (z (sym q))
-      go (some k) f q = (k, line_of p k f, q)
+      go None f q = absurd (z (sym q))
+      go (Some k) f q = (k, line_of p k f, q)
 
   without-line : ((k : Kind) → Line p k → ⊥) → wire_number l p ≡ 20
   unfolding wire_number
   without-line n = go (find p.kind kinds) refl
     where
       go : (o : Option Kind) → find p.kind kinds ≡ o → by_kind l o p ≡ 20
-      go none f = refl
-      go (some k) f = absurd (n k (line_of p k f))
+      go None f = refl
+      go (Some k) f = absurd (n k (line_of p k f))
 
   module _ (k : Kind) where
     abbrev a : Bool
@@ -847,12 +846,12 @@ has-low (suc (suc (suc (suc (suc (suc (suc zero))))))) h = refl
 has-low (suc (suc (suc (suc (suc (suc (suc (suc j)))))))) h = absurd (omega (arith, h))
 
 -- a bit of what a hello offers is one of a hello that has passed
-offering : (h : HelloState) (j : ℕ) → has_bit (offered h) j ≡ true → (word : ℕ) × (h ≡ Passed word) × (has_bit word j ≡ true)
-offering Awaited j e = absurd (false≢true (sym (none-of-zero j) ∙ e))
+offering : (h : Option ℕ) (j : ℕ) → has_bit (offered h) j ≡ true → (word : ℕ) × (h ≡ Some word) × (has_bit word j ≡ true)
+offering None j e = absurd (false≢true (sym (none-of-zero j) ∙ e))
   where
     none-of-zero : (i : ℕ) → has_bit 0 i ≡ false
     none-of-zero i = ap (λ (n : ℕ). eqb (n % 2) 1) (div-eq_of_lt (pow_pos i))
-offering (Passed word) j e = (word, refl, e)
+offering (Some word) j e = (word, refl, e)
 
 pub shared-bits : SharedBits
 unfolding shared_set
@@ -870,6 +869,6 @@ shared-bits l j = (words_of, of_words)
     of_words s =
         (has_both (bit_and (offered l.guest) (offered l.host)) 255 j).1 (
           (has_both (offered l.guest) (offered l.host) j).1
-              (ap (λ (h : HelloState). has_bit (offered h) j) s.guest-passed ∙ s.in-guest, ap (λ (h : HelloState). has_bit (offered h) j) s.host-passed ∙ s.in-host),
+              (ap (λ (h : Option ℕ). has_bit (offered h) j) s.guest-passed ∙ s.in-guest, ap (λ (h : Option ℕ). has_bit (offered h) j) s.host-passed ∙ s.in-host),
           has-low j s.low,
         )

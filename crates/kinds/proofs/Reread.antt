@@ -3,10 +3,10 @@
 -- all fields are there (`all_there`), so that the body's length is the header's, and `again` gives the body back; the header's three numbers come
 -- back one by one (`number-there`).
 -- Assumes nothing.
+use Rattle.std.specs.Prelude.{Option, Some, None}
 use mathlib.Core.Path.{◌≡◌, refl, sym, ap, ◌∙◌}
 use mathlib.Core.Bool.{Bool, true, false}
 use mathlib.Core.List.{List, ◌++◌}
-use mathlib.Core.Option.{Option, none, some}
 use Prim.Native.Nat.{ℕ, ◌+◌, ◌^◌, ◌≤◌, ◌<◌}
 use native.Mathlib.Nat.{add-zero}
 use native.Mathlib.Omega.{arith}
@@ -29,7 +29,7 @@ use Rattle.kinds.proofs.RoundTrip.{clean, both_zero}
 use Rattle.kinds.proofs.Again.{Octets, octets-drop, number-again, again}
 
 -- where the wire checks find nothing, each field has all its numbers
-pub all_there : (l : Link) (q : Content) (k : Kind) → find q.kind kinds ≡ some k → wire_number l q ≡ 0 → complete k.fields q.fields ≡ true
+pub all_there : (l : Link) (q : Content) (k : Kind) → find q.kind kinds ≡ Some k → wire_number l q ≡ 0 → complete k.fields q.fields ≡ true
 all_there l q k f z =
     let c = clean l q z in
     let e : c.kind ≡ k = cc (c.found, f) in
@@ -81,8 +81,8 @@ module _ (l : Link) (b : List ℕ) (o : Octets b) (w : Whole l b) where
       body = drop (header_size l (kind_of b)) b
 
       go : (k : Option Kind) → find (kind_of b) kinds ≡ k → size (shared (shared_set l)) (fields_of (find (kind_of b) kinds)) ≤ length (drop (header_size l (kind_of b)) b)
-      go none f = let z : ◌≡◌ {A = ℕ} 20 0 = rw f at w.wire in absurd (omega arith)
-      go (some k) f =
+      go None f = let z : ◌≡◌ {A = ℕ} 20 0 = rw f at w.wire in absurd (omega arith)
+      go (Some k) f =
           let c : complete k.fields (split (shared (shared_set l)) (fields_of (find (kind_of b) kinds)) body) ≡ true = all_there l (decode l b) k f w.wire in
           let d : complete k.fields (split (shared (shared_set l)) k.fields body) ≡ true = (λ i. complete k.fields (split (shared (shared_set l)) (fields_of (sym f i)) body)) ∙ c in
           rw f (leb-true (size (shared (shared_set l)) k.fields) (length body) (sym (complete-split (shared (shared_set l)) k.fields body) ∙ d))

@@ -4,10 +4,10 @@
 -- read back by its laws, the body stands behind it (`reads`), and fields and rest come back by `round` and `rest_back`. The number is then that
 -- of the packet itself.
 -- Assumes nothing.
+use Rattle.std.specs.Prelude.{Option, Some, None}
 use mathlib.Core.Path.{◌≡◌, refl, sym, ap, ◌∙◌}
 use mathlib.Core.Bool.{Bool, true, false, not, ◌&&◌, ◌||◌, false≢true}
 use mathlib.Core.List.{List, [], ◌∷◌}
-use mathlib.Core.Option.{Option, none, some}
 use Prim.Native.Nat.{ℕ, ◌+◌, ◌^◌, ◌≤◌, ◌<◌}
 use native.Mathlib.Omega.{arith}
 use lib.ListN.{length, drop, length-append}
@@ -41,7 +41,7 @@ none-holds false false false false false z = (refl, refl, refl, refl, refl)
 -- each field whole and none that breaks its rule
 pub record Clean (l : Link) (p : Content) : Type 0 where
   pub kind : Kind
-  pub found : find p.kind kinds ≡ some kind
+  pub found : find p.kind kinds ≡ Some kind
   pub sender : sends kind.sender l.sender ≡ true
   pub sharing : surplus (shared_set l) kind.fields p.fields ≡ false
   pub narrow : wide_id l p ≡ false
@@ -53,8 +53,8 @@ unfolding wire_number kind_number
 clean l p z = go (find p.kind kinds) refl z
   where
     go : (o : Option Kind) → find p.kind kinds ≡ o → by_kind l o p ≡ 0 → Clean l p
-    go none f n = absurd (omega (arith, n))
-    go (some k) f n =
+    go None f n = absurd (omega (arith, n))
+    go (Some k) f n =
         let caps : ℕ = shared_set l in
         let fs : List Field = k.fields in
         let h = none-holds (not (sends k.sender l.sender))
@@ -89,11 +89,11 @@ kinds-fit : fit_kinds kinds ≡ true
 unfolding kinds
 kinds-fit = refl
 
-found-fits : (n : ℕ) (ks : List Kind) (k : Kind) → fit_kinds ks ≡ true → find n ks ≡ some k → n < 256 ^ 4
+found-fits : (n : ℕ) (ks : List Kind) (k : Kind) → fit_kinds ks ≡ true → find n ks ≡ Some k → n < 256 ^ 4
 found-fits n [] k t e = let z : ◌≡◌ {A = ℕ} 0 1 = cc in absurd (omega arith)
 found-fits n (r ∷ rs) k t e = go (eqb n r.number) refl (found-fits n rs k (and_parts (ltb r.number (256 ^ 4)) (fit_kinds rs) t).1)
   where
-    go : (b : Bool) → eqb n r.number ≡ b → (find n rs ≡ some k → n < 256 ^ 4) → n < 256 ^ 4
+    go : (b : Bool) → eqb n r.number ≡ b → (find n rs ≡ Some k → n < 256 ^ 4) → n < 256 ^ 4
     go true s ih =
         let l : r.number < 256 ^ 4 = ltb-true r.number (256 ^ 4) (and_parts (ltb r.number (256 ^ 4)) (fit_kinds rs) t).0 in
         let z : n ≡ r.number = eqb-true n r.number s in
@@ -102,10 +102,10 @@ found-fits n (r ∷ rs) k t e = go (eqb n r.number) refl (found-fits n rs k (and
 
 -- a hello's id has to be 0
 abbrev id_rule : Option Kind → Id
-id_rule none = id-any
-id_rule (some k) = k.id
+id_rule None = id-any
+id_rule (Some k) = k.id
 
-hello-id : (k : Kind) → find 0 kinds ≡ some k → k.id ≡ id-zero
+hello-id : (k : Kind) → find 0 kinds ≡ Some k → k.id ≡ id-zero
 unfolding kinds
 hello-id k e = sym (ap id_rule e)
 
@@ -129,7 +129,7 @@ pub record Encodable (l : Link) (p : Content) : Type 0 where
   pub wire : wire_number l p ≡ 0
 
 -- an id fits its width: a hello's is 0, and any other that does not is 22
-id-fits : (l : Link) (p : Content) (k : Kind) → find p.kind kinds ≡ some k → wide_id l p ≡ false → is_none (bad_id k.id p.id) ≡ true
+id-fits : (l : Link) (p : Content) (k : Kind) → find p.kind kinds ≡ Some k → wide_id l p ≡ false → is_none (bad_id k.id p.id) ≡ true
     → p.id < 256 ^ id_width l p.kind
 id-fits l p k f w b = go (eqb p.kind 0) refl
   where

@@ -4,13 +4,13 @@
 -- those before the status are read off bytes that stay (`value_before`), the status is the byte that was put there (`put_byte`), and those behind
 -- it are read off what follows, none of them replaced (`none-replaced`). What follows the fields stays, as the status stands before it (`within`).
 -- Assumes nothing.
+use Rattle.std.specs.Prelude.{Some, None}
 use Prim.Native.Nat.{ℕ, zero, suc, ◌+◌, ◌*◌, ◌≤◌, ◌<◌}
 use native.Mathlib.Nat.{add-zero, mul-suc}
 use native.Mathlib.Omega.{arith}
 use mathlib.Core.Path.{◌≡◌, refl, sym, ap, ap₂, ◌∙◌}
 use mathlib.Core.Bool.{Bool, true, false, cond, not, ◌&&◌, false≢true}
 use mathlib.Core.List.{List, [], ◌∷◌}
-use mathlib.Core.Option.{none, some}
 use lib.ListN.{length, set, drop, replicate, length-set}
 use lib.Seq.{get_or-set_other, drop-set-lt, drop-set-add}
 use lib.Dec.{eqb, leb}
@@ -96,8 +96,8 @@ module _ (caps : ℕ) where
 
   -- a field before the status
   value_before : (f : Field) (s : List ℕ) (k x : ℕ)
-      → cond (shared caps f.there) (some (whole f (set s (size_of (shared caps) f + k) x))) none ≡ cond (shared caps f.there) (some (whole f s)) none
-  value_before f s k x = cases (shared caps f.there) (λ t. rw t (ap some (whole_before f s (f.width * f.times + k) x (omega arith)))) (λ t. rw t)
+      → cond (shared caps f.there) (Some (whole f (set s (size_of (shared caps) f + k) x))) None ≡ cond (shared caps f.there) (Some (whole f s)) None
+  value_before f s k x = cases (shared caps f.there) (λ t. rw t (ap Some (whole_before f s (f.width * f.times + k) x (omega arith)))) (λ t. rw t)
 
   split-set : (fs : List Field) (s : List ℕ) (x : ℕ) → single fs ≡ true → has_status fs ≡ true
       → split (shared caps) fs (set s (status_at (shared caps) fs) x) ≡ status_in x fs (split (shared caps) fs s)
@@ -109,7 +109,7 @@ module _ (caps : ℕ) where
       (λ t.
       let l : Lone f fs = lone f fs (rw t at a) in
       let rest = ap (split (shared caps) fs) (drop-set-lt 1 s 0 x (omega arith)) ∙ sym (none-replaced x fs (split (shared caps) fs (drop 1 s)) l.last) in
-      rw (t, l.there, l.width, l.times) (ap₂ (λ (v : List ℕ) (vs : List Value). some v ∷ vs) (put_byte s x) rest))
+      rw (t, l.there, l.width, l.times) (ap₂ (λ (v : List ℕ) (vs : List Value). Some v ∷ vs) (put_byte s x) rest))
       (λ t.
       let rest = ap (split (shared caps) fs) (drop-set-add n s k x) ∙ split-set fs (drop n s) x (rw t at a) (rw t at h) in
       rw t (ap₂ (λ (v : Value) (vs : List Value). v ∷ vs) (value_before f s k x) rest))

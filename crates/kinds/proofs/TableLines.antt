@@ -1,10 +1,10 @@
 -- What holds of the fields of every line of the table, and is computed there, holds of the fields of a packet's kind (`found-line`), and of those of
 -- a kind that was found (`of-found`).
 -- Assumes nothing.
+use Rattle.std.specs.Prelude.{Option, Some}
 use Prim.Native.Nat.{ℕ}
 use mathlib.Core.Bool.{Bool, true, ◌&&◌}
 use mathlib.Core.List.{List, [], ◌∷◌}
-use mathlib.Core.Option.{Option, some}
 use mathlib.Core.Path.{◌≡◌, subst}
 use lib.Dec.{eqb}
 use borrow.Table.Steps.{cases}
@@ -23,5 +23,5 @@ found-line P e n (k ∷ ks) a =
     let h = and_parts (P k.fields) (every_line P ks) a in
     cases (eqb n k.number) (λ t. rw t h.0) (λ t. rw t (found-line P e n ks h.1))
 
-pub of-found : (P : List Field → Bool) → P [] ≡ true → (n : ℕ) (ks : List Kind) (k : Kind) → every_line P ks ≡ true → find n ks ≡ some k → P k.fields ≡ true
+pub of-found : (P : List Field → Bool) → P [] ≡ true → (n : ℕ) (ks : List Kind) (k : Kind) → every_line P ks ≡ true → find n ks ≡ Some k → P k.fields ≡ true
 of-found P e n ks k a f = subst (λ (o : Option Kind). P (fields_of o) ≡ true) f (found-line P e n ks a)

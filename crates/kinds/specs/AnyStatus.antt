@@ -3,8 +3,7 @@
 -- not depend on that byte (`any-status-byte`).
 -- Assumes nothing: these are definitions, examples by computation, and the statements that `proofs/AnyStatus.antt` and
 -- `proofs/StatusByte.antt` prove.
-use Rattle.std.specs.Prelude.{ℕ, ◌+◌, Bool, true, false, cond, ◌||◌, List, [], ◌∷◌, ◌++◌, ◌≡◌, refl, length, replicate, set}
-use Rattle.std.proofs.Math.Option.{none, some}
+use Rattle.std.specs.Prelude.{ℕ, ◌+◌, Bool, true, false, cond, ◌||◌, List, [], ◌∷◌, ◌++◌, ◌≡◌, refl, length, replicate, set, Some, None}
 use lib.Text.{eqt}
 use Rattle.header.specs.declared.Link.{Link}
 use Rattle.header.specs.Link.{shared_set}
@@ -17,8 +16,8 @@ use Rattle.kinds.specs.Codec.{layout, content_at, write_number}
 
 -- x in the place of each of a field's numbers; a status has one
 abbrev pub replaced_by : ℕ → Value → Value
-replaced_by x none = none
-replaced_by x (some xs) = some (replicate (length xs) x)
+replaced_by x None = None
+replaced_by x (Some xs) = Some (replicate (length xs) x)
 
 abbrev pub status_in : ℕ → List Field → List Value → List Value
 status_in x [] vs = vs

@@ -1,7 +1,6 @@
 -- A packet's bytes and back; the number of bytes that were read and of a packet to be written.
 -- Assumes nothing: these are definitions.
-use Rattle.std.specs.Prelude.{ℕ, ◌+◌, ◌^◌, ◌<◌, cond, List, [], ◌∷◌, ◌++◌, ◌≡◌, length, drop, eqb, ltb}
-use Rattle.std.proofs.Math.Option.{none, some}
+use Rattle.std.specs.Prelude.{ℕ, ◌+◌, ◌^◌, ◌<◌, cond, List, [], ◌∷◌, ◌++◌, ◌≡◌, length, drop, eqb, ltb, Some, None}
 use Rattle.header.specs.declared.Link.{Link}
 use Rattle.header.specs.Link.{shared_set}
 use Rattle.header.specs.Header.{kind_of, length_of, id_of, header_size, header_bytes, header_number}
@@ -80,8 +79,8 @@ abbrev pub Fitting : List Field → List Value → Type 0
 Fitting [] [] = Unit {0}
 Fitting [] (v ∷ vs) = ⊥
 Fitting (f ∷ fs) [] = ⊥
-Fitting (f ∷ fs) (none ∷ vs) = Fitting fs vs
-Fitting (f ∷ fs) (some xs ∷ vs) = Below f.width xs × Fitting fs vs
+Fitting (f ∷ fs) (None ∷ vs) = Fitting fs vs
+Fitting (f ∷ fs) (Some xs ∷ vs) = Below f.width xs × Fitting fs vs
 
 pub record Accepted (l : Link) (p : Content) : Type 0 where
   pub fields : Fitting (layout p.kind) p.fields

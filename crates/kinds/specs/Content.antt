@@ -1,9 +1,8 @@
 -- What a packet says, whichever way it is held: its kind, its id, its fields in body order, and what follows them.
 -- Reader and writer are stated over it. How it stands in a body's bytes is read off the table.
 -- Assumes nothing: these are definitions.
-use Rattle.std.specs.Prelude.{ℕ, zero, suc, ◌+◌, ◌*◌, Bool, true, cond, ◌&&◌, List, [], ◌∷◌, ◌++◌, map, length, drop, eqb, leb}
+use Rattle.std.specs.Prelude.{ℕ, zero, suc, ◌+◌, ◌*◌, Bool, true, cond, ◌&&◌, List, [], ◌∷◌, ◌++◌, map, length, drop, eqb, leb, Option, Some, None}
 use Prim.Native.String.{String}
-use Rattle.std.proofs.Math.Option.{Option, none, some}
 use lib.Text.{eqt}
 use Rattle.octets.specs.Little.{le, bytes_of}
 use Rattle.octets.specs.Bits.{has_bit}
@@ -15,7 +14,7 @@ Value = Option (List ℕ)
 
 -- one number
 abbrev pub one : ℕ → Value
-one x = some (x ∷ [])
+one x = Some (x ∷ [])
 
 pub record Content : Type 0 where
   pub kind : ℕ
@@ -34,11 +33,11 @@ shared caps always = true
 shared caps (bit j) = has_bit caps j
 shared caps (bits j k) = has_bit caps j && has_bit caps k
 
--- a bit that is needed; 32 where none is, and no kind of the table needs two
-abbrev pub needed_bit : Bits → ℕ
-needed_bit always = 32
-needed_bit (bit j) = j
-needed_bit (bits j k) = 32
+-- a bit that is needed; no kind of the table needs two
+abbrev pub needed_bit : Bits → Option ℕ
+needed_bit always = None
+needed_bit (bit j) = Some j
+needed_bit (bits j k) = None
 
 -- a field's bytes: none where it is not there. `has` says which are there: for bytes off the wire, those that are shared.
 abbrev pub size_of : (Bits → Bool) → Field → ℕ
@@ -60,7 +59,7 @@ whole f s = cond (leb (f.width * f.times) (length s)) (numbers f.width f.times s
 -- the fields that stand in s, one after the other
 abbrev pub split : (Bits → Bool) → List Field → List ℕ → List Value
 split has [] s = []
-split has (f ∷ fs) s = cond (has f.there) (some (whole f s)) none ∷ split has fs (drop (size_of has f) s)
+split has (f ∷ fs) s = cond (has f.there) (Some (whole f s)) None ∷ split has fs (drop (size_of has f) s)
 
 -- the bytes of fields
 abbrev pub bytes_of_all : ℕ → List ℕ → List ℕ
@@ -68,8 +67,8 @@ bytes_of_all w [] = []
 bytes_of_all w (x ∷ xs) = bytes_of w x ++ bytes_of_all w xs
 
 abbrev pub bytes_of_value : ℕ → Value → List ℕ
-bytes_of_value w none = []
-bytes_of_value w (some xs) = bytes_of_all w xs
+bytes_of_value w None = []
+bytes_of_value w (Some xs) = bytes_of_all w xs
 
 abbrev pub bytes : List Field → List Value → List ℕ
 bytes [] vs = []
@@ -88,9 +87,9 @@ widths fs = padded 7 (map (λ (f : Field). f.width) fs)
 -- ---- a field by its name: its first number, 0 where it is not there
 
 abbrev pub first_number : Value → ℕ
-first_number none = 0
-first_number (some []) = 0
-first_number (some (x ∷ xs)) = x
+first_number None = 0
+first_number (Some []) = 0
+first_number (Some (x ∷ xs)) = x
 
 abbrev pub named : String → List Field → List Value → ℕ
 named n [] vs = 0
@@ -100,9 +99,9 @@ named n (f ∷ fs) (v ∷ vs) = cond (eqt n f.name) (first_number v) (named n fs
 -- ---- a kind by its number
 
 abbrev pub find : ℕ → List Kind → Option Kind
-find n [] = none
-find n (k ∷ ks) = cond (eqb n k.number) (some k) (find n ks)
+find n [] = None
+find n (k ∷ ks) = cond (eqb n k.number) (Some k) (find n ks)
 
 abbrev pub fields_of : Option Kind → List Field
-fields_of none = []
-fields_of (some k) = k.fields
+fields_of None = []
+fields_of (Some k) = k.fields

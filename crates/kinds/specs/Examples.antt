@@ -1,12 +1,10 @@
 -- Worked examples, each by computation: sizes, names, numbers and places.
 -- Assumes nothing.
-use Rattle.std.specs.Prelude.{◌≡◌, refl, Bool, true, false, cond, ◌&&◌, ◌||◌, List, [], ◌∷◌, map, ℕ, ◌+◌, ◌*◌, replicate, set, length, leb}
-use Rattle.std.proofs.Math.Option.{none, some}
+use Rattle.std.specs.Prelude.{◌≡◌, refl, Bool, true, false, cond, ◌&&◌, ◌||◌, List, [], ◌∷◌, map, ℕ, ◌+◌, ◌*◌, replicate, set, leb, Some, None}
 use Prim.Native.String.{String}
 use lib.Text.{eqt}
 use Rattle.header.specs.declared.Side.{Side}
 use Rattle.header.specs.declared.Side.TheVariants.{Guest, Host}
-use Rattle.header.specs.declared.HelloState.TheVariants.{Awaited, Passed}
 use Rattle.octets.specs.Bits.{has_bit}
 use Rattle.header.specs.Link.{shared_set, id_width}
 use Rattle.kinds.specs.Table.{Bits, always, bit, bits, Field, Tail, nothing, words, string, payload, payload-onward, Kind, kinds, kind_at}
@@ -100,29 +98,29 @@ spelt = (refl, refl, refl)
 
 -- the number of a packet where both hellos have passed and offered these
 abbrev number : Side → ℕ → Content → ℕ
-number from caps p = wire_number (record { sender = from; guest = Passed caps; host = Passed caps }) p
+number from caps p = wire_number (record { sender = from; guest = Some caps; host = Some caps }) p
 
 -- where no hello has passed
 abbrev first : Content → ℕ
-first p = wire_number (record { sender = Guest; guest = Awaited; host = Awaited }) p
+first p = wire_number (record { sender = Guest; guest = None; host = None }) p
 
 -- where only the guest's has
 abbrev lone : ℕ → Content → ℕ
-lone caps p = wire_number (record { sender = Guest; guest = Passed caps; host = Awaited }) p
+lone caps p = wire_number (record { sender = Guest; guest = Some caps; host = None }) p
 
 -- a hello whose version is 64 times x
 abbrev hello : ℕ → List ℕ → Content
-hello x s = packet_of 0 0 (some (replicate 64 x) ∷ []) s
+hello x s = packet_of 0 0 (Some (replicate 64 x) ∷ []) s
 
 abbrev connect : ℕ → Value → Content
 connect speed version = packet_of 1 0 (one speed ∷ one 0 ∷ one 0 ∷ one 0 ∷ one 0 ∷ one 0 ∷ version ∷ []) []
 
 abbrev rows : Value
-rows = some (replicate 32 0)
+rows = Some (replicate 32 0)
 
 -- an endpoint table with this type in row 17
 abbrev table : ℕ → Value → Value → Content
-table type packets streams = packet_of 5 0 (some (set (replicate 32 0) 17 type) ∷ rows ∷ rows ∷ packets ∷ streams ∷ []) []
+table type packets streams = packet_of 5 0 (Some (set (replicate 32 0) 17 type) ∷ rows ∷ rows ∷ packets ∷ streams ∷ []) []
 
 abbrev control : ℕ → ℕ → Content
 control requesttype status = packet_of 100 3 (one 0 ∷ one 6 ∷ one requesttype ∷ one status ∷ one 0 ∷ one 0 ∷ one 0 ∷ []) []
@@ -131,15 +129,15 @@ abbrev bulk : ℕ → Value → List ℕ → Content
 bulk stream high s = packet_of 101 9 (one 2 ∷ one 0 ∷ one 2 ∷ one stream ∷ high ∷ []) s
 
 pub passing : (number Guest 0 (packet_of 7 7 [] []) ≡ 0)
-    × (number Guest 0 (bulk 0 none (170 ∷ 187 ∷ [])) ≡ 0)
-    × (number Host 0 (bulk 0 none []) ≡ 0)
+    × (number Guest 0 (bulk 0 None (170 ∷ 187 ∷ [])) ≡ 0)
+    × (number Host 0 (bulk 0 None []) ≡ 0)
     × (first (hello 0 (17 ∷ 0 ∷ 0 ∷ 0 ∷ [])) ≡ 0)
     × (number Host 0 (packet_of 8 1 (one 7 ∷ one 1 ∷ []) []) ≡ 0)  -- any status, from either end
     × (number Host 0 (control 0 255) ≡ 0)
     × (number Guest 0 (control 0 255) ≡ 0)
     × (number Host 2 (connect 255 (one 0)) ≡ 0)
     × (number Host 17 (table 255 rows rows) ≡ 0)
-    × (number Guest 1 (bulk 5 none (170 ∷ 187 ∷ [])) ≡ 0)
+    × (number Guest 1 (bulk 5 None (170 ∷ 187 ∷ [])) ≡ 0)
     × (number Guest 32 (packet_of 7 4294967296 [] []) ≡ 0)
 unfolding shared_set id_width wire_number kind_number bad kinds
 passing = (refl, refl, refl, refl, refl, refl, refl, refl, refl, refl, refl)
@@ -152,15 +150,15 @@ pub refused : (number Guest 0 (packet_of 28 0 [] []) ≡ 20)
     × (number Guest 0 (bulk 0 (one 1) (170 ∷ 187 ∷ [])) ≡ 22)
     × (lone 32 (packet_of 7 4294967296 [] []) ≡ 22)
     × (number Guest 0 (packet_of 7 7 [] (1 ∷ [])) ≡ 23)
-    × (number Guest 0 (bulk 0 none (170 ∷ [])) ≡ 23)
-    × (number Host 0 (bulk 0 none (170 ∷ 187 ∷ [])) ≡ 23)
+    × (number Guest 0 (bulk 0 None (170 ∷ [])) ≡ 23)
+    × (number Host 0 (bulk 0 None (170 ∷ 187 ∷ [])) ≡ 23)
     × (number Guest 64 (packet_of 101 9 (one 2 ∷ one 0 ∷ one 65535 ∷ one 0 ∷ one 65535 ∷ []) []) ≡ 23)  -- a count of 4,294,967,295
     × (number Guest 4 (packet_of 23 0 [] []) ≡ 23)
     × (number Host 2 (connect 4 (one 0)) ≡ 24)
     × (number Host 0 (control 128 0) ≡ 24)
     × (number Guest 0 (packet_of 12 5 (one 18 ∷ one 1 ∷ one 1 ∷ []) []) ≡ 24)
     × (number Guest 1 (packet_of 18 1 (one 0 ∷ one 0 ∷ []) []) ≡ 24)
-    × (number Guest 0 (bulk 5 none (170 ∷ 187 ∷ [])) ≡ 24)
+    × (number Guest 0 (bulk 5 None (170 ∷ 187 ∷ [])) ≡ 24)
     × (number Guest 4 (packet_of 23 0 [] (0 ∷ 48 ∷ [])) ≡ 24)
     × (first (hello 1 []) ≡ 24)
     × (first (hello 0 (1 ∷ 0 ∷ 0 ∷ 0 ∷ [])) ≡ 13)
@@ -186,16 +184,16 @@ lowest = (refl, refl, refl, refl, refl, refl, refl, refl, refl)
 
 -- ---- places: of the first bad field, and of an id only where no field is bad
 
-pub places : (bad Host 17 (kind_at 5) (table 4 rows rows) ≡ some 17)
-    × (bad Host 0 (kind_at 28) (control 128 7) ≡ some 2)
-    × (bad Host 0 (kind_at 28) (control 0 7) ≡ none)
-    × (bad Host 0 (kind_at 2) (packet_of 2 1 [] []) ≡ some 65535)
-    × (bad Host 0 (kind_at 2) (packet_of 2 0 [] []) ≡ none)
-    × (bad Host 2 (kind_at 1) (connect 0 none) ≡ some 8)
-    × (bad Host 0 (kind_at 1) (packet_of 1 1 (one 4 ∷ one 0 ∷ one 0 ∷ one 0 ∷ one 0 ∷ one 0 ∷ none ∷ []) []) ≡ some 0)
-    × (bad Guest 0 (kind_at 0) (packet_of 0 1 (some (replicate 64 1) ∷ []) []) ≡ some 0)
-    × (bad Host 16 (kind_at 5) (table 0 none none) ≡ some 96)
-    × (bad Host 17 (kind_at 5) (table 0 rows none) ≡ some 160)
+pub places : (bad Host 17 (kind_at 5) (table 4 rows rows) ≡ Some 17)
+    × (bad Host 0 (kind_at 28) (control 128 7) ≡ Some 2)
+    × (bad Host 0 (kind_at 28) (control 0 7) ≡ None)
+    × (bad Host 0 (kind_at 2) (packet_of 2 1 [] []) ≡ Some 65535)
+    × (bad Host 0 (kind_at 2) (packet_of 2 0 [] []) ≡ None)
+    × (bad Host 2 (kind_at 1) (connect 0 None) ≡ Some 8)
+    × (bad Host 0 (kind_at 1) (packet_of 1 1 (one 4 ∷ one 0 ∷ one 0 ∷ one 0 ∷ one 0 ∷ one 0 ∷ None ∷ []) []) ≡ Some 0)
+    × (bad Guest 0 (kind_at 0) (packet_of 0 1 (Some (replicate 64 1) ∷ []) []) ≡ Some 0)
+    × (bad Host 16 (kind_at 5) (table 0 None None) ≡ Some 96)
+    × (bad Host 17 (kind_at 5) (table 0 rows None) ≡ Some 160)
 unfolding bad kinds
 places = (refl, refl, refl, refl, refl, refl, refl, refl, refl, refl)
 
@@ -203,20 +201,20 @@ places = (refl, refl, refl, refl, refl, refl, refl, refl, refl, refl)
 
 -- the number of a packet to be written into so many bytes, where both hellos have passed and offered these
 abbrev writing : Side → ℕ → ℕ → Content → ℕ
-writing from caps room p = write_number (record { sender = from; guest = Passed caps; host = Passed caps }) p room
+writing from caps room p = write_number (record { sender = from; guest = Some caps; host = Some caps }) p room
 
 pub writer : (writing Guest 0 12 (packet_of 7 7 [] []) ≡ 0)
     × (writing Guest 0 11 (packet_of 7 7 [] []) ≡ 40)
     × (writing Guest 32 15 (packet_of 7 7 [] []) ≡ 40)  -- 64-bit ids
     × (writing Host 0 0 (connect 0 (one 0)) ≡ 22)  -- and no room: 22 before 40
-    × (writing Host 2 0 (connect 0 none) ≡ 24)  -- missing though shared: 24 and not 23
+    × (writing Host 2 0 (connect 0 None) ≡ 24)  -- missing though shared: 24 and not 23
     × (writing Guest 0 0 (bulk 0 (one 1) (170 ∷ 187 ∷ [])) ≡ 22)  -- a count of 65,538
     × (writing Guest 0 0 (packet_of 7 4294967296 [] []) ≡ 22)
     × (writing Guest 0 0 (packet_of 22 4294967296 [] []) ≡ 22)
     × (writing Guest 0 0 (hello 0 []) ≡ 12)
-    × (first (packet_of 0 4294967296 (some (replicate 64 0) ∷ []) []) ≡ 24)  -- a hello's id has to be 0, however wide it is
-    × (writing Guest 0 0 (bulk 0 none (replicate 32760 0)) ≡ 23)
-    × (writing Guest 0 0 (bulk 0 none (replicate 32761 0)) ≡ 10)
+    × (first (packet_of 0 4294967296 (Some (replicate 64 0) ∷ []) []) ≡ 24)  -- a hello's id has to be 0, however wide it is
+    × (writing Guest 0 0 (bulk 0 None (replicate 32760 0)) ≡ 23)
+    × (writing Guest 0 0 (bulk 0 None (replicate 32761 0)) ≡ 10)
 unfolding shared_set id_width header_size header_bytes header_number layout encode packet_number write_number wire_number kind_number bad kinds
 writer = (refl, refl, refl, refl, refl, refl, refl, refl, refl, refl, refl, refl)
 

@@ -3,13 +3,11 @@
 -- too (`SharedBit`). Fields are spoken of by their place in the kind's line of the table. None of the tests of `wire_number` is used: a rule that
 -- is changed there together with its code is seen here.
 -- Assumes nothing: these are definitions, and the statements that `proofs/Formed.antt` proves.
-use Rattle.std.specs.Prelude.{ℕ, suc, ◌+◌, ◌*◌, ◌/◌, ◌≤◌, ◌<◌, Bool, true, false, List, ◌↔◌, ◌⊎◌, ◌≡◌, length, get_or}
-use Rattle.std.proofs.Math.Option.{none, some}
+use Rattle.std.specs.Prelude.{ℕ, suc, ◌+◌, ◌*◌, ◌/◌, ◌≤◌, ◌<◌, Bool, true, false, List, ◌↔◌, ◌⊎◌, ◌≡◌, length, get_or, Some, None}
 use Rattle.octets.specs.Little.{le}
 use Rattle.octets.specs.Bits.{has_bit}
 use Rattle.header.specs.declared.Side.{Side}
 use Rattle.header.specs.declared.Side.TheVariants.{Guest, Host}
-use Rattle.header.specs.declared.HelloState.TheVariants.{Passed}
 use Rattle.header.specs.declared.Link.{Link}
 use Rattle.header.specs.Link.{shared_set}
 use Rattle.kinds.specs.Table.{Sender, G, H, B, Bits, always, bit, bits, Rule, any, holding-zero, speed, at-most-32, endpoint-type, endpoint, endpoint-in, endpoint-onward, endpoint-out-of-guest, as-endpoint, nonzero, zero-without, Field, Tail, nothing, words, string, payload, payload-onward, id-zero, Kind, kind_at, u8}
@@ -30,7 +28,7 @@ abbrev pub field_at : Kind → ℕ → Field
 field_at k i = get_or k.fields i (u8 "")
 
 abbrev pub There : Content → ℕ → List ℕ → Type 0
-There p i xs = get_or p.fields i none ≡ some xs
+There p i xs = get_or p.fields i None ≡ Some xs
 
 -- ---- 21: "wrong sender"
 
@@ -47,8 +45,8 @@ pub record SharedBit (l : Link) (j : ℕ) : Type 0 where
   pub low : j ≤ 7
   pub guest_word : ℕ
   pub host_word : ℕ
-  pub guest-passed : l.guest ≡ Passed guest_word
-  pub host-passed : l.host ≡ Passed host_word
+  pub guest-passed : l.guest ≡ Some guest_word
+  pub host-passed : l.host ≡ Some host_word
   pub in-guest : has_bit guest_word j ≡ true
   pub in-host : has_bit host_word j ≡ true
 

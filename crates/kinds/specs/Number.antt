@@ -1,7 +1,6 @@
 -- The wire checks 13 and 20 to 24: one definition, over a packet's content, for reader and writer.
 -- Assumes nothing: these are definitions.
-use Rattle.std.specs.Prelude.{ℕ, zero, suc, ◌+◌, ◌*◌, ◌/◌, ◌%◌, ◌^◌, Bool, true, false, cond, not, ◌&&◌, ◌||◌, List, [], ◌∷◌, length, get_or, eqb, leb, ltb}
-use Rattle.std.proofs.Math.Option.{Option, none, some}
+use Rattle.std.specs.Prelude.{ℕ, zero, suc, ◌+◌, ◌*◌, ◌/◌, ◌%◌, ◌^◌, Bool, true, false, cond, not, ◌&&◌, ◌||◌, List, [], ◌∷◌, length, get_or, eqb, leb, ltb, Option, Some, None}
 use Rattle.octets.specs.Little.{le}
 use Rattle.octets.specs.Bits.{has_bit}
 use Rattle.endpoint.specs.Endpoint.{is_address}
@@ -19,14 +18,20 @@ sends G from = is_guest from
 sends H from = not (is_guest from)
 sends B from = true
 
+-- the one side that sends
+abbrev pub alone : Sender → Option Side
+alone G = Some Guest
+alone H = Some Host
+alone B = None
+
 -- ---- 22: needed bit not shared; of the writer also a field that the shared set leaves out, or an id that its width cannot hold
 
 -- a field is there that is not shared
 abbrev pub surplus : ℕ → List Field → List Value → Bool
 surplus caps [] vs = false
 surplus caps (f ∷ fs) [] = false
-surplus caps (f ∷ fs) (none ∷ vs) = surplus caps fs vs
-surplus caps (f ∷ fs) (some xs ∷ vs) = not (shared caps f.there) || surplus caps fs vs
+surplus caps (f ∷ fs) (None ∷ vs) = surplus caps fs vs
+surplus caps (f ∷ fs) (Some xs ∷ vs) = not (shared caps f.there) || surplus caps fs vs
 
 -- "a non-hello's id over 32 bits without bit 5"
 abbrev pub wide_id : Link → Content → Bool
@@ -38,8 +43,8 @@ wide_id l p = not (eqb p.kind 0) && leb (256 ^ id_width l p.kind) p.id
 abbrev pub complete : List Field → List Value → Bool
 complete [] vs = true
 complete (f ∷ fs) [] = false
-complete (f ∷ fs) (none ∷ vs) = complete fs vs
-complete (f ∷ fs) (some xs ∷ vs) = eqb (length xs) f.times && complete fs vs
+complete (f ∷ fs) (None ∷ vs) = complete fs vs
+complete (f ∷ fs) (Some xs ∷ vs) = eqb (length xs) f.times && complete fs vs
 
 -- "The bulk count is low + 65,536 times high, or low without bit 6."
 abbrev pub data_length : List Field → List Value → ℕ
@@ -90,35 +95,35 @@ holds nonzero from caps e xs i = not (eqb (get_or xs i 0) 0)
 holds (zero-without j) from caps e xs i = has_bit caps j || eqb (get_or xs i 0) 0
 
 abbrev pub or_else : Option ℕ → Option ℕ → Option ℕ
-or_else none y = y
-or_else (some x) y = some x
+or_else None y = y
+or_else (Some x) y = Some x
 
 -- the place of the first of n numbers, of w bytes each, that fails, counted from number i
 abbrev pub first_bad : (ℕ → Bool) → ℕ → ℕ → ℕ → ℕ → Option ℕ
-first_bad ok w zero i at = none
-first_bad ok w (suc n) i at = cond (ok i) (first_bad ok w n (suc i) (at + w)) (some at)
+first_bad ok w zero i at = None
+first_bad ok w (suc n) i at = cond (ok i) (first_bad ok w n (suc i) (at + w)) (Some at)
 
 -- in a field that starts at `at`; "such a field missing where shared is 24"
 abbrev pub bad_field : Side → ℕ → ℕ → Field → Value → ℕ → Option ℕ
-bad_field from caps e f none at = cond (shared caps f.there) (some at) none
-bad_field from caps e f (some xs) at = first_bad (holds f.rule from caps e xs) f.width f.times 0 at
+bad_field from caps e f None at = cond (shared caps f.there) (Some at) None
+bad_field from caps e f (Some xs) at = first_bad (holds f.rule from caps e xs) f.width f.times 0 at
 
 abbrev pub bad_fields : Side → ℕ → ℕ → List Field → List Value → ℕ → Option ℕ
-bad_fields from caps e [] vs at = none
-bad_fields from caps e (f ∷ fs) [] at = none
+bad_fields from caps e [] vs at = None
+bad_fields from caps e (f ∷ fs) [] at = None
 bad_fields from caps e (f ∷ fs) (v ∷ vs) at = or_else (bad_field from caps e f v at) (bad_fields from caps e fs vs (at + size_of (shared caps) f))
 
 abbrev pub bad_tail : Tail → List ℕ → ℕ → Option ℕ
-bad_tail nothing s at = none
-bad_tail words s at = none
-bad_tail string s at = cond (eqb (zero_at s + 1) (length s)) none (some at)
-bad_tail payload s at = none
-bad_tail payload-onward s at = none
+bad_tail nothing s at = None
+bad_tail words s at = None
+bad_tail string s at = cond (eqb (zero_at s + 1) (length s)) None (Some at)
+bad_tail payload s at = None
+bad_tail payload-onward s at = None
 
 -- an id that has to be 0 and is not: 65,535, after every field
 abbrev pub bad_id : Id → ℕ → Option ℕ
-bad_id id-any n = none
-bad_id id-zero n = cond (eqb n 0) none (some 65535)
+bad_id id-any n = None
+bad_id id-zero n = cond (eqb n 0) None (Some 65535)
 
 -- where the first field in body order that breaks a rule starts, counted from the body's first byte
 unfoldable pub bad : Side → ℕ → Kind → Content → Option ℕ
@@ -127,8 +132,8 @@ bad from caps k p =
     (or_else (bad_tail k.tail p.rest (size (shared caps) k.fields)) (bad_id k.id p.id))
 
 abbrev pub is_none : Option ℕ → Bool
-is_none none = true
-is_none (some x) = false
+is_none None = true
+is_none (Some x) = false
 
 -- ---- 13: hello has bit 0 without bit 4
 
@@ -154,8 +159,8 @@ kind_number l k p =
     (streams_alone k.tail p.rest)
 
 abbrev pub by_kind : Link → Option Kind → Content → ℕ
-by_kind l none p = 20
-by_kind l (some k) p = kind_number l k p
+by_kind l None p = 20
+by_kind l (Some k) p = kind_number l k p
 
 unfoldable pub wire_number : Link → Content → ℕ
 wire_number l p = by_kind l (find p.kind kinds) p

@@ -1,11 +1,10 @@
 -- What the table says of the kind at a slot, for all 33 slots at once: a column of the table and a column of the slots are equal
 -- by computation.
 -- Assumes nothing.
-use Rattle.std.specs.Prelude.{◌≡◌, refl, Bool, true, false, cond, ◌&&◌, ◌||◌, List, [], ◌∷◌, map, ℕ, zero, suc, ◌+◌, ◌-◌, ◌*◌, ◌≤◌, ◌<◌, length, get_or, eqb, leb}
+use Rattle.std.specs.Prelude.{◌≡◌, refl, Bool, true, false, cond, ◌&&◌, ◌||◌, List, [], ◌∷◌, map, ℕ, zero, suc, ◌+◌, ◌-◌, ◌*◌, ◌≤◌, ◌<◌, length, get_or, eqb, leb, Some, None}
 use Rattle.std.proofs.Common.{sym, ◌∙◌, add-zero, suc-add, add-suc, zero-add, le_of_suc-le-suc, not-suc-le-zero, arith, lit≤, eqb-true, le-leb, leb-true}
 use Rattle.std.proofs.Math.Path.{ap}
 use Rattle.std.proofs.lemmas.Bool.{false≢true, lt-leb}
-use Rattle.std.proofs.Math.Option.{none, some}
 use Rattle.octets.proofs.Logic.{and_parts}
 use Rattle.kinds.specs.Table.{Bits, Field, Kind, kinds, kind_at, none_such}
 use Rattle.kinds.specs.Content.{size, find}
@@ -29,9 +28,9 @@ module _ {A : Type 0} (f : Kind → A) (g : ℕ → A) where
   column e slot h = column-at kinds 0 e slot h ∙ ap g (zero-add slot)
 
 -- a kind is found by its number
-pub found : (slot : ℕ) → slot < 33 → find (kind_at slot).number kinds ≡ some (kind_at slot)
+pub found : (slot : ℕ) → slot < 33 → find (kind_at slot).number kinds ≡ Some (kind_at slot)
 unfolding kinds
-found slot h = column (λ (k : Kind). find k.number kinds) (λ (i : ℕ). some (kind_at i)) refl slot h
+found slot h = column (λ (k : Kind). find k.number kinds) (λ (i : ℕ). Some (kind_at i)) refl slot h
 
 -- a hello stands at slot 0 and nowhere else
 pub only-hello : (slot : ℕ) → slot < 33 → eqb (kind_at slot).number 0 ≡ eqb slot 0
@@ -82,11 +81,11 @@ abbrev all_known : List Kind → Bool
 all_known [] = true
 all_known (r ∷ rs) = known r.number && all_known rs
 
-absent : (k : ℕ) (rs : List Kind) → known k ≡ false → all_known rs ≡ true → find k rs ≡ none
+absent : (k : ℕ) (rs : List Kind) → known k ≡ false → all_known rs ≡ true → find k rs ≡ None
 absent k [] h t = refl
 absent k (r ∷ rs) h t = go (eqb k r.number) refl (absent k rs h (and_parts (known r.number) (all_known rs) t).1)
   where
-    go : (b : Bool) → eqb k r.number ≡ b → find k rs ≡ none → find k (r ∷ rs) ≡ none
+    go : (b : Bool) → eqb k r.number ≡ b → find k rs ≡ None → find k (r ∷ rs) ≡ None
     go true e ih = absurd (false≢true (sym h ∙ ap known (eqb-true k r.number e) ∙ (and_parts (known r.number) (all_known rs) t).0))
     go false e ih = rw e ih
 
@@ -94,8 +93,8 @@ all_known_lem : all_known kinds ≡ true
 unfolding kinds
 all_known_lem = refl
 
-pub between : (kind : ℕ) → 27 < kind → kind < 100 → find kind kinds ≡ none
+pub between : (kind : ℕ) → 27 < kind → kind < 100 → find kind kinds ≡ None
 between kind h t = absent kind kinds (rw (lt-leb kind 27 h, lt-leb 100 kind t)) all_known_lem
 
-pub above : (kind : ℕ) → 104 < kind → find kind kinds ≡ none
+pub above : (kind : ℕ) → 104 < kind → find kind kinds ≡ None
 above kind h = absent kind kinds (simp (lt-leb kind 27 (omega arith), le-leb 100 kind (omega arith), lt-leb kind 104 h)) all_known_lem

@@ -1,7 +1,6 @@
 -- The laws of numbers in bytes, each over the width: what is written is read back (`le_bytes`), behind other bytes (`le-shift`, `le-drop`) and
--- before them (`le-front`), and n bytes spell a number below 256 to the n (`le-lt`); four by their bytes (`spelt`), eight by their halves
--- (`le-halves`). Of stores into a list and of parts of one: two runs of stores
--- are one (`sets-append`), and a part can be cut out from either end first (`drop-take`).
+-- before them (`le-front`), and n bytes spell a number below 256 to the n (`le-lt`). Of stores into a list and of parts of one: two runs of
+-- stores are one (`sets-append`), and a part can be cut out from either end first (`drop-take`).
 -- By induction over the width: the first byte is the remainder by 256, and those behind it spell the quotient. What stands in front is taken off
 -- byte by byte (`le-cons`); runs of stores and parts go by induction over the first.
 -- Assumes nothing.
@@ -80,19 +79,3 @@ drop-take zero e s = rw sub-zero
 drop-take (suc a) zero s = rw zero-sub
 drop-take (suc a) (suc e) [] = rw take-nil
 drop-take (suc a) (suc e) (x ∷ s) = rw suc-sub-suc (drop-take a e s)
-
--- four bytes spell a number
-pub spelt : {b₀ b₁ b₂ b₃ : ℕ} (s : List ℕ) (at : ℕ) → b₃ ≡ get_or s (at + 3) 0 → b₂ ≡ get_or s (at + 2) 0 → b₁ ≡ get_or s (at + 1) 0 → b₀ ≡ get_or s at 0
-    → b₀ + 256 * (b₁ + 256 * (b₂ + 256 * b₃)) ≡ le 4 s at
-spelt s at e₃ e₂ e₁ e₀ =
-    let i₁ : at + 1 ≡ suc at = omega arith in
-    let i₂ : at + 2 ≡ suc (suc at) = omega arith in
-    let i₃ : at + 3 ≡ suc (suc (suc at)) = omega arith in
-    let byte : ℕ → ℕ = λ k. get_or s k 0 in
-    rw (e₀, e₁ ∙ ap byte i₁, e₂ ∙ ap byte i₂, e₃ ∙ ap byte i₃) (omega arith)
-
--- eight bytes are four and four
-pub le-halves : {low high : ℕ} (s : List ℕ) (at : ℕ) → low ≡ le 4 s at → high ≡ le 4 s (at + 4) → low + 4294967296 * high ≡ le 8 s at
-le-halves s at e₀ e₁ =
-    let i : at + 4 ≡ suc (suc (suc (suc at))) = omega arith in
-    rw (e₀, e₁, i) (omega arith)

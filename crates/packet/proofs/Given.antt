@@ -1,6 +1,7 @@
 -- The fields of a connect packet and of a bulk packet, whose last number may not be there.
 -- By its two cases: a number that is not there has no bytes and owes nothing.
 -- Assumes nothing.
+use Rattle.std.specs.Prelude.{Option, Some, None, is_some}
 use Prim.Native.Nat.{ℕ, ◌/◌, ◌%◌, ◌<◌, ◌≤◌}
 use native.Mathlib.Omega.{arith}
 use mathlib.Core.Path.{◌≡◌, refl}
@@ -15,20 +16,17 @@ use Rattle.endpoint.specs.declared.Endpoint.{Endpoint}
 use Rattle.kinds.specs.Table.{kinds}
 use Rattle.kinds.specs.Codec.{layout}
 use Rattle.packet.specs.declared.Part.{Part}
-use Rattle.packet.specs.declared.Optional16.{Optional16}
-use Rattle.packet.specs.declared.Optional16.TheVariants.{Absent, Present}
 use Rattle.packet.specs.declared.Packet.TheVariants.{Connect, Bulk}
-use Rattle.packet.specs.Packet.{is_given, optional}
 use Rattle.packet.specs.Fields.{or_zero, plain_fields, with_rest, Lists}
 
-pub connect : (caps speed class subclass protocol vendor product : ℕ) (version : Optional16) → speed < 256 → class < 256 → subclass < 256 → protocol < 256
-    → vendor < 65536 → product < 65536 → or_zero (optional version) < 65536
+pub connect : (caps speed class subclass protocol vendor product : ℕ) (version : Option ℕ) → speed < 256 → class < 256 → subclass < 256 → protocol < 256
+    → vendor < 65536 → product < 65536 → or_zero version < 65536
     → Lists caps (Connect (record { speed = speed; class = class; subclass = subclass; protocol = protocol; vendor = vendor; product = product; version = version }))
-    (plain_fields 1 (cond (is_given version) 7 6) (speed ∷ class ∷ subclass ∷ protocol ∷ vendor ∷ product ∷ or_zero (optional version) ∷ []))
+    (plain_fields 1 (cond (is_some version) 7 6) (speed ∷ class ∷ subclass ∷ protocol ∷ vendor ∷ product ∷ or_zero version ∷ []))
 unfolding kinds layout
-connect caps a b c d e f Absent ha hb hc hd he hf hv =
+connect caps a b c d e f None ha hb hc hd he hf hv =
     record { exact = refl; small = lit< tt; kind = refl; few = lit≤ tt; bare = λ z. refl; bytes = refl; fits = ((ha, tt), ((hb, tt), ((hc, tt), ((hd, tt), ((he, tt), ((hf, tt), tt)))))) }
-connect caps a b c d e f (Present x) ha hb hc hd he hf hv =
+connect caps a b c d e f (Some x) ha hb hc hd he hf hv =
     record { exact = refl; small = lit< tt; kind = refl; few = lit≤ tt; bare = λ z. refl; bytes = refl; fits = ((ha, tt), ((hb, tt), ((hc, tt), ((hd, tt), ((he, tt), ((hf, tt), ((hv, tt), tt))))))) }
 
 pub bulk : (caps : ℕ) (e : Endpoint) (status n stream : ℕ) (part : Part) → e.0 < 256 → status < 256 → n < 4294967296 → stream < 4294967296

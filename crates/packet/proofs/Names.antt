@@ -1,12 +1,12 @@
 -- `NamedFields` holds: by computation, field by field. A version's numbers of one byte each are its bytes (`ones`), and the cells of the tables are
 -- `interface-cells` and `endpoint-cells`.
 -- Assumes nothing.
+use Rattle.std.specs.Prelude.{Option, Some, None}
 use Prim.Native.Nat.{ℕ, zero, suc, ◌+◌, ◌*◌, ◌≤◌, ◌<◌}
 use native.Mathlib.Omega.{arith}
 use mathlib.Core.Bool.{Bool, true, false, cond}
 use mathlib.Core.Path.{◌≡◌, refl, sym, ap, ap₂, ◌∙◌}
 use mathlib.Core.List.{List, [], ◌∷◌}
-use mathlib.Core.Option.{Option, none, some}
 use lib.ListN.{length, get_or, drop, drop_of_length-le}
 use lib.Seq.{drop-cons}
 use lib.Dec.{leb, lit<}
@@ -16,7 +16,7 @@ use Rattle.kinds.specs.Content.{first_number, numbers}
 use Rattle.kinds.specs.Codec.{layout}
 use Rattle.packet.specs.declared.InterfaceRow.{InterfaceRow}
 use Rattle.packet.specs.declared.EndpointRow.{EndpointRow}
-use Rattle.packet.specs.Packet.{optional, high, in_part, single, rows_in, content_of}
+use Rattle.packet.specs.Packet.{high, in_part, single, rows_in, content_of}
 use Rattle.packet.specs.Fields.{or_zero}
 use Rattle.packet.proofs.Same.{bulk-count}
 use Rattle.packet.proofs.Rows.{interface-cells, endpoint-cells}
@@ -24,11 +24,11 @@ use Rattle.packet.specs.Rows.{interface_row, endpoint_row}
 use Rattle.packet.specs.Names.{is_there, NamedFields}
 
 pub first-single : (v : Option ℕ) → first_number (single v) ≡ or_zero v
-first-single none = refl
-first-single (some x) = refl
+first-single None = refl
+first-single (Some x) = refl
 
 -- a field that is there where b holds
-there-when : (b : Bool) (xs : List ℕ) → is_there (cond b (some xs) none) ≡ b
+there-when : (b : Bool) (xs : List ℕ) → is_there (cond b (Some xs) None) ≡ b
 there-when true xs = refl
 there-when false xs = refl
 
@@ -99,7 +99,7 @@ named-fields caps id body =
       connect-protocol = λ x. refl;
       connect-vendor = λ x. refl;
       connect-product = λ x. refl;
-      connect-version = λ x. first-single (optional x.version);
+      connect-version = λ x. first-single x.version;
       connect-version-there = λ x. refl;
       interface-table-count = λ x. refl;
       interface-table-interface = λ x i. sym (ap (λ (r : InterfaceRow). r.interface) (interface-cells x body i));

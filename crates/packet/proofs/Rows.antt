@@ -3,6 +3,8 @@
 -- Number i of a column stands i widths behind its start, by induction over the column (`at-number`). The layout splits one column off after the
 -- other and the code adds their sizes up: `drop-drop` makes both one place, and the rest computes from the table of kinds.
 -- Assumes nothing.
+use Rattle.std.specs.Bool.{then_some}
+use Rattle.std.specs.Prelude.{Some, None}
 use mathlib.Core.Path.{◌≡◌, refl, sym, ap, ◌∙◌}
 use mathlib.Core.Bool.{Bool, true, false, cond}
 use mathlib.Core.List.{List, []}
@@ -21,12 +23,10 @@ use Rattle.kinds.specs.Codec.{layout}
 use Rattle.kinds.proofs.FieldBytes.{length-numbers}
 use Rattle.packet.specs.declared.EndpointRow.{EndpointRow}
 use Rattle.packet.specs.declared.InterfaceRow.{InterfaceRow}
-use Rattle.packet.specs.declared.Optional16.TheVariants.{Absent, Present}
 use Rattle.packet.specs.declared.InterfaceTable.{InterfaceTable}
 use Rattle.packet.specs.declared.EndpointTable.{EndpointTable}
-use Rattle.packet.specs.Packet.{in_part, rows_in, columns_of, optional16_of}
-use Rattle.packet.specs.declared.Optional32.TheVariants.{Present as Present32}
-use Rattle.packet.specs.Rows.{table_size, cell_at, element, optional32_of, interface_row, endpoint_row}
+use Rattle.packet.specs.Packet.{in_part, rows_in, columns_of}
+use Rattle.packet.specs.Rows.{table_size, cell_at, element, interface_row, endpoint_row}
 
 at-number : (w n : ℕ) (s : List ℕ) (at i : ℕ) → i < n → get_or (numbers w n s at) i 0 ≡ le w s (at + i * w)
 at-number w zero s at i h = absurd (not-suc-le-zero h)
@@ -96,15 +96,15 @@ table-cells : (rows : List ℕ) (packets streams : Bool) (i : ℕ)
       ty = cell_at rows 0 1 i;
       interval = cell_at rows 32 1 i;
       interface = cell_at rows 64 1 i;
-      maxpacket = optional16_of packets (cell_at rows 96 2 i);
-      maxstreams = optional32_of streams (cell_at rows (cond packets 160 96) 4 i);
+      maxpacket = then_some packets (cell_at rows 96 2 i);
+      maxstreams = then_some streams (cell_at rows (cond packets 160 96) 4 i);
     })
     (record {
       ty = element "type" fs vs i;
       interval = element "interval" fs vs i;
       interface = element "interface" fs vs i;
-      maxpacket = optional16_of packets (element "max packet" fs vs i);
-      maxstreams = optional32_of streams (element "max streams" fs vs i);
+      maxpacket = then_some packets (element "max packet" fs vs i);
+      maxstreams = then_some streams (element "max streams" fs vs i);
     })
 unfolding kinds layout
 table-cells rows true streams i = λ j.
@@ -112,24 +112,24 @@ table-cells rows true streams i = λ j.
       ty = in_column 1 rows i;
       interval = in_column 1 (drop 32 rows) i;
       interface = in_column 1 (two rows j) i;
-      maxpacket = Present (in_column 2 (three rows j) i);
+      maxpacket = Some (in_column 2 (three rows j) i);
       maxstreams = behind streams j;
     }
   where
-    behind : (b : Bool) → optional32_of b (in_column 4 (drop 160 rows) i) ≡ optional32_of b (element "max streams" (layout 5) (split (columns_of true b) (layout 5) rows) i)
-    behind true = λ j. Present32 (in_column 4 (five rows j) i)
+    behind : (b : Bool) → then_some b (in_column 4 (drop 160 rows) i) ≡ then_some b (element "max streams" (layout 5) (split (columns_of true b) (layout 5) rows) i)
+    behind true = λ j. Some (in_column 4 (five rows j) i)
     behind false = refl
 table-cells rows false streams i = λ j.
     record {
       ty = in_column 1 rows i;
       interval = in_column 1 (drop 32 rows) i;
       interface = in_column 1 (two rows j) i;
-      maxpacket = Absent;
+      maxpacket = None;
       maxstreams = behind streams j;
     }
   where
-    behind : (b : Bool) → optional32_of b (in_column 4 (drop 96 rows) i) ≡ optional32_of b (element "max streams" (layout 5) (split (columns_of false b) (layout 5) rows) i)
-    behind true = λ j. Present32 (in_column 4 (three rows j) i)
+    behind : (b : Bool) → then_some b (in_column 4 (drop 96 rows) i) ≡ then_some b (element "max streams" (layout 5) (split (columns_of false b) (layout 5) rows) i)
+    behind true = λ j. Some (in_column 4 (three rows j) i)
     behind false = refl
 
 -- the table's bytes are the sum of its columns'
@@ -147,8 +147,8 @@ pub endpoint-cells : (t : EndpointTable) (body : List ℕ) (i : ℕ)
       ty = cell_at rows 0 1 i;
       interval = cell_at rows 32 1 i;
       interface = cell_at rows 64 1 i;
-      maxpacket = optional16_of t.maxpacket (cell_at rows 96 2 i);
-      maxstreams = optional32_of t.maxstreams (cell_at rows (cond t.maxpacket 160 96) 4 i);
+      maxpacket = then_some t.maxpacket (cell_at rows 96 2 i);
+      maxstreams = then_some t.maxstreams (cell_at rows (cond t.maxpacket 160 96) 4 i);
     })
     (endpoint_row t body i)
 unfolding endpoint_row

@@ -3,12 +3,12 @@
 -- A packet is made of a kind, numbers and parts again (`packet_from`); made of what a packet says, it is that packet, a line for each variant, by
 -- computation (`packet-back`). A bulk packet's count comes back from its two parts (`bulk-count`).
 -- Assumes nothing.
+use Rattle.std.specs.Prelude.{Option, Some, None}
 use Prim.Native.Nat.{ℕ, ◌+◌, ◌*◌, ◌/◌, ◌%◌, ◌≤◌}
 use native.Mathlib.Omega.{arith}
 use mathlib.Core.Path.{◌≡◌, refl, sym, ap, ◌∙◌}
 use mathlib.Core.Bool.{Bool, true, false, cond, ◌||◌}
 use mathlib.Core.List.{List}
-use mathlib.Core.Option.{Option, none, some}
 use lib.ListN.{get_or}
 use lib.Dec.{eqb, ltb}
 use borrow.Author.Tests.{ltb-false}
@@ -18,17 +18,15 @@ use Rattle.kinds.specs.Table.{kinds}
 use Rattle.kinds.specs.Content.{Value, first_number}
 use Rattle.kinds.specs.Codec.{layout}
 use Rattle.packet.specs.declared.Part.{Part}
-use Rattle.packet.specs.declared.Optional16.{Optional16}
-use Rattle.packet.specs.declared.Optional16.TheVariants.{Absent, Present}
 use Rattle.packet.specs.declared.Packet.{Packet}
 use Rattle.packet.specs.declared.Packet.TheVariants.{Hello, Connect, Disconnect, Reset, InterfaceTable, EndpointTable, SetConfiguration, GetConfiguration, ConfigurationStatus, SetAlt, GetAlt, AltStatus, StartIso, StopIso, IsoStatus, StartInterrupt, StopInterrupt, InterruptStatus, AllocStreams, FreeStreams, StreamsStatus, Cancel, FilterReject, Filter, DisconnectAck, StartBulkReceiving, StopBulkReceiving, BulkReceivingStatus, Control, Bulk, Iso, Interrupt, BufferedBulk}
-use Rattle.packet.specs.Packet.{optional, high, shown_of, single, content_of}
+use Rattle.packet.specs.Packet.{high, shown_of, single, content_of}
 use Rattle.packet.specs.Fields.{or_zero}
 use Rattle.packet.specs.Same.{SamePacket, ShownSame}
 
 -- ---- a bulk packet's count from its two parts: the high one is there, or the count fits into the low one
 
-count-back : (b c : Bool) (n : ℕ) → (c ≡ false → n ≤ 65535) → n % 65536 + 65536 * or_zero (cond (b || c) (some (n / 65536)) none) ≡ n
+count-back : (b c : Bool) (n : ℕ) → (c ≡ false → n ≤ 65535) → n % 65536 + 65536 * or_zero (cond (b || c) (Some (n / 65536)) None) ≡ n
 count-back true c n h = omega arith
 count-back false true n h = omega arith
 count-back false false n h = let l : n ≤ 65535 = h refl in omega arith
@@ -39,16 +37,16 @@ bulk-count caps n = count-back (has_bit caps 6) (ltb 65535 n) n (ltb-false 65535
 -- ---- a packet made again
 
 abbrev is_there : Value → Bool
-is_there none = false
-is_there (some xs) = true
+is_there None = false
+is_there (Some xs) = true
 
-abbrev optional_from : Value → Optional16
-optional_from none = Absent
-optional_from (some xs) = Present (first_number (some xs))
+abbrev optional_from : Value → Option ℕ
+optional_from None = None
+optional_from (Some xs) = Some (first_number (Some xs))
 
 -- the number of field i, and an endpoint of it
 abbrev num : List Value → ℕ → ℕ
-num vs i = first_number (get_or vs i none)
+num vs i = first_number (get_or vs i None)
 
 abbrev end : List Value → ℕ → Endpoint
 end vs i = record { 0 = num vs i }
@@ -56,11 +54,11 @@ end vs i = record { 0 = num vs i }
 abbrev packet_from : ℕ → List Value → Part → Part → Packet
 packet_from k vs rows rest =
     cond (eqb k 0) (Hello (record { version = rows; words = rest }))
-    (cond (eqb k 1) (Connect (record { speed = num vs 0; class = num vs 1; subclass = num vs 2; protocol = num vs 3; vendor = num vs 4; product = num vs 5; version = optional_from (get_or vs 6 none) }))
+    (cond (eqb k 1) (Connect (record { speed = num vs 0; class = num vs 1; subclass = num vs 2; protocol = num vs 3; vendor = num vs 4; product = num vs 5; version = optional_from (get_or vs 6 None) }))
     (cond (eqb k 2) Disconnect
     (cond (eqb k 3) Reset
     (cond (eqb k 4) (InterfaceTable (record { count = num vs 0; rows = rows }))
-    (cond (eqb k 5) (EndpointTable (record { rows = rows; maxpacket = is_there (get_or vs 3 none); maxstreams = is_there (get_or vs 4 none) }))
+    (cond (eqb k 5) (EndpointTable (record { rows = rows; maxpacket = is_there (get_or vs 3 None); maxstreams = is_there (get_or vs 4 None) }))
     (cond (eqb k 6) (SetConfiguration (record { configuration = num vs 0 }))
     (cond (eqb k 7) GetConfiguration
     (cond (eqb k 8) (ConfigurationStatus (record { status = num vs 0; configuration = num vs 1 }))
@@ -95,9 +93,9 @@ unfolding content_of layout kinds
 packet-back caps id (Hello x) body = refl
 packet-back caps id (Connect x) body = version-back x.version
   where
-    version-back : (v : Optional16) → Connect (record { speed = x.speed; class = x.class; subclass = x.subclass; protocol = x.protocol; vendor = x.vendor; product = x.product; version = optional_from (single (optional v)) }) ≡ Connect (record { speed = x.speed; class = x.class; subclass = x.subclass; protocol = x.protocol; vendor = x.vendor; product = x.product; version = v })
-    version-back Absent = refl
-    version-back (Present n) = refl
+    version-back : (v : Option ℕ) → Connect (record { speed = x.speed; class = x.class; subclass = x.subclass; protocol = x.protocol; vendor = x.vendor; product = x.product; version = optional_from (single v) }) ≡ Connect (record { speed = x.speed; class = x.class; subclass = x.subclass; protocol = x.protocol; vendor = x.vendor; product = x.product; version = v })
+    version-back None = refl
+    version-back (Some n) = refl
 packet-back caps id Disconnect body = refl
 packet-back caps id Reset body = refl
 packet-back caps id (InterfaceTable x) body = refl
@@ -135,8 +133,8 @@ packet-back caps id (Control x) body = refl
 packet-back caps id (Bulk x) body = ap (λ (m : ℕ). Bulk (record { endpoint = x.endpoint; status = x.status; length = m; stream = x.stream; payload = x.payload })) (high-back (high caps x.length) (x.length % 65536) ∙ bulk-count caps x.length)
   where
     high-back : (v : Option ℕ) (low : ℕ) → low + 65536 * first_number (single v) ≡ low + 65536 * or_zero v
-    high-back none low = refl
-    high-back (some y) low = refl
+    high-back None low = refl
+    high-back (Some y) low = refl
 packet-back caps id (Iso x) body = refl
 packet-back caps id (Interrupt x) body = refl
 packet-back caps id (BufferedBulk x) body = refl

@@ -1,9 +1,8 @@
 -- Worked examples of the code's packets: the number that a packet with its body has, and its bytes.
 -- Assumes nothing: all by computation.
-use Rattle.std.specs.Prelude.{ℕ, Bool, true, false, List, [], ◌∷◌, ◌≡◌, refl, replicate}
+use Rattle.std.specs.Prelude.{ℕ, Bool, true, false, List, [], ◌∷◌, ◌≡◌, refl, replicate, Option, Some, None}
 use Rattle.header.specs.declared.Side.{Side}
 use Rattle.header.specs.declared.Side.TheVariants.{Guest, Host}
-use Rattle.header.specs.declared.HelloState.TheVariants.{Passed}
 use Rattle.header.specs.declared.Link.{Link}
 use Rattle.header.specs.Link.{shared_set, id_width}
 use Rattle.header.specs.Header.{header_size, header_bytes}
@@ -11,15 +10,13 @@ use Rattle.kinds.specs.Table.{kinds}
 use Rattle.kinds.specs.Number.{bad, kind_number, wire_number}
 use Rattle.kinds.specs.Codec.{layout, encode}
 use Rattle.packet.specs.declared.Part.{Part}
-use Rattle.packet.specs.declared.Optional16.{Optional16}
-use Rattle.packet.specs.declared.Optional16.TheVariants.{Absent, Present}
 use Rattle.packet.specs.declared.Packet.{Packet}
 use Rattle.packet.specs.declared.Packet.TheVariants.{Connect, EndpointTable, Control, Bulk}
 use Rattle.packet.specs.Packet.{content_of}
 
 -- both hellos have passed and offered these
 abbrev link : Side → ℕ → Link
-link from caps = record { sender = from; guest = Passed caps; host = Passed caps }
+link from caps = record { sender = from; guest = Some caps; host = Some caps }
 
 abbrev number : Side → ℕ → Packet → List ℕ → ℕ
 number from caps p body = wire_number (link from caps) (content_of caps 0 p body)
@@ -33,7 +30,7 @@ front n = record { start = 0; end = n }
 abbrev bulk : ℕ → ℕ → Packet
 bulk n size = Bulk (record { endpoint = record { 0 = 2 }; status = 0; length = n; stream = 0; payload = front size })
 
-abbrev connect : Optional16 → Packet
+abbrev connect : Option ℕ → Packet
 connect version = Connect (record { speed = 2; class = 9; subclass = 0; protocol = 1; vendor = 7531; product = 2; version = version })
 
 abbrev table : ℕ → Bool → Bool → Packet
@@ -50,10 +47,10 @@ unfolding shared_set id_width layout content_of wire_number kind_number bad kind
 counts = (refl, refl, refl, refl, refl, refl)
 
 -- a field that is there and not shared is 22, one that is missing and shared 24
-pub presence : (number Host 0 (connect Absent) [] ≡ 0)
-    × (number Host 0 (connect (Present 256)) [] ≡ 22)
-    × (number Host 2 (connect Absent) [] ≡ 24)
-    × (number Host 2 (connect (Present 256)) [] ≡ 0)
+pub presence : (number Host 0 (connect None) [] ≡ 0)
+    × (number Host 0 (connect (Some 256)) [] ≡ 22)
+    × (number Host 2 (connect None) [] ≡ 24)
+    × (number Host 2 (connect (Some 256)) [] ≡ 0)
     × (number Host 0 (table 96 false false) (replicate 96 0) ≡ 0)
     × (number Host 0 (table 160 true false) (replicate 160 0) ≡ 22)
     × (number Host 16 (table 96 false false) (replicate 96 0) ≡ 24)

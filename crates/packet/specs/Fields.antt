@@ -1,7 +1,6 @@
 -- A packet by its fields, as `packet::fields_of` lists them for those who write or show a packet without asking for its kind.
 -- Assumes nothing: these are definitions.
-use Rattle.std.specs.Prelude.{ℕ, zero, suc, ◌-◌, ◌≤◌, ◌<◌, ◌≡◌, cond, List, [], ◌∷◌, ◌++◌, map, length, take, drop, leb}
-use Rattle.std.proofs.Math.Option.{Option, none, some}
+use Rattle.std.specs.Prelude.{ℕ, zero, suc, ◌-◌, ◌≤◌, ◌<◌, ◌≡◌, cond, List, [], ◌∷◌, ◌++◌, map, length, take, drop, leb, Option, Some, None}
 use Rattle.octets.specs.Little.{bytes_of}
 use Rattle.kinds.specs.Table.{kind_at}
 use Rattle.kinds.specs.Content.{size, bytes, padded, widths}
@@ -14,12 +13,12 @@ use Rattle.packet.specs.Packet.{shown_of, no_part, single}
 -- how many fields are there
 abbrev pub given : List (Option ℕ) → ℕ
 given [] = 0
-given (none ∷ vs) = given vs
-given (some x ∷ vs) = suc (given vs)
+given (None ∷ vs) = given vs
+given (Some x ∷ vs) = suc (given vs)
 
 abbrev pub or_zero : Option ℕ → ℕ
-or_zero none = 0
-or_zero (some x) = x
+or_zero None = 0
+or_zero (Some x) = x
 
 abbrev pub plain_fields : ℕ → ℕ → List ℕ → Fields
 plain_fields slot count numbers = record { slot = slot; count = count; numbers = numbers; rows = no_part; rest = no_part }

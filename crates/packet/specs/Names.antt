@@ -3,9 +3,9 @@
 -- in two fields of the table. A hello's version and the rows of the tables stand in a part of the body: the numbers of such a field are those of
 -- that part, and a row's field is the cell of the column of its name.
 -- Assumes nothing: these are statements; proofs/Names.antt shows them.
-use Rattle.std.specs.Prelude.{ℕ, ◌+◌, ◌*◌, Bool, true, false, cond, ◌≡◌, List, [], ◌∷◌, length, get_or}
+use Rattle.std.specs.Bool.{then_some}
+use Rattle.std.specs.Prelude.{ℕ, ◌+◌, ◌*◌, Bool, true, false, cond, ◌≡◌, List, [], ◌∷◌, length, get_or, Some, None}
 use Prim.Native.String.{String}
-use Rattle.std.proofs.Math.Option.{none, some}
 use lib.Text.{eqt}
 use Rattle.kinds.specs.Table.{Field}
 use Rattle.kinds.specs.Content.{Value, named}
@@ -39,19 +39,19 @@ use Rattle.packet.specs.declared.Interrupt.{Interrupt as InterruptFields}
 use Rattle.packet.specs.declared.BufferedBulk.{BufferedBulk as BufferedBulkFields}
 use Rattle.packet.specs.declared.Packet.{Packet}
 use Rattle.packet.specs.declared.Packet.TheVariants.{Hello, Connect, Disconnect, Reset, InterfaceTable, EndpointTable, SetConfiguration, GetConfiguration, ConfigurationStatus, SetAlt, GetAlt, AltStatus, StartIso, StopIso, IsoStatus, StartInterrupt, StopInterrupt, InterruptStatus, AllocStreams, FreeStreams, StreamsStatus, Cancel, FilterReject, Filter, DisconnectAck, StartBulkReceiving, StopBulkReceiving, BulkReceivingStatus, Control, Bulk, Iso, Interrupt, BufferedBulk}
-use Rattle.packet.specs.Packet.{optional, optional16_of, high, in_part, single, rows_in, content_of}
+use Rattle.packet.specs.Packet.{high, in_part, single, rows_in, content_of}
 use Rattle.packet.specs.Fields.{or_zero}
-use Rattle.packet.specs.Rows.{column, interface_row, endpoint_row, optional32_of, table_size, cell_at}
+use Rattle.packet.specs.Rows.{column, interface_row, endpoint_row, table_size, cell_at}
 
 -- the field of that name, there or not; none where the line has no such field
 abbrev pub value_of : String → List Field → List Value → Value
-value_of n [] vs = none
-value_of n (f ∷ fs) [] = none
+value_of n [] vs = None
+value_of n (f ∷ fs) [] = None
 value_of n (f ∷ fs) (v ∷ vs) = cond (eqt n f.name) v (value_of n fs vs)
 
 abbrev pub is_there : Value → Bool
-is_there none = false
-is_there (some xs) = true
+is_there None = false
+is_there (Some xs) = true
 
 module _ (caps id : ℕ) (body : List ℕ) where
   -- the number in the field of that name, 0 where it is not there
@@ -126,9 +126,9 @@ module _ (caps id : ℕ) (body : List ℕ) where
     pub connect-protocol : (x : ConnectFields) → says "protocol" (Connect x) ≡ x.protocol
     pub connect-vendor : (x : ConnectFields) → says "vendor" (Connect x) ≡ x.vendor
     pub connect-product : (x : ConnectFields) → says "product" (Connect x) ≡ x.product
-    pub connect-version : (x : ConnectFields) → says "version" (Connect x) ≡ or_zero (optional x.version)
+    pub connect-version : (x : ConnectFields) → says "version" (Connect x) ≡ or_zero x.version
     -- it is there exactly where it is present
-    pub connect-version-there : (x : ConnectFields) → field "version" (Connect x) ≡ single (optional x.version)
+    pub connect-version-there : (x : ConnectFields) → field "version" (Connect x) ≡ single x.version
     pub interface-table-count : (x : InterfaceTableFields) → says "count" (InterfaceTable x) ≡ x.count
     -- each column where it stands among the rows, and each field of a row
     pub interface-table-interface : (x : InterfaceTableFields) (i : ℕ) → number_under "interface" (InterfaceTable x) i ≡ cell_at (interface_bytes x) 0 1 i
@@ -146,14 +146,14 @@ module _ (caps id : ℕ) (body : List ℕ) where
     pub endpoint-table-maxpacket : (x : EndpointTableFields) → is_there (field "max packet" (EndpointTable x)) ≡ x.maxpacket
     pub endpoint-table-maxstreams : (x : EndpointTableFields) → is_there (field "max streams" (EndpointTable x)) ≡ x.maxstreams
     pub endpoint-table-maxpacket-cells : (x : EndpointTableFields) (i : ℕ)
-        → optional16_of x.maxpacket (number_under "max packet" (EndpointTable x) i) ≡ optional16_of x.maxpacket (cell_at (endpoint_bytes x) 96 2 i)
+        → then_some x.maxpacket (number_under "max packet" (EndpointTable x) i) ≡ then_some x.maxpacket (cell_at (endpoint_bytes x) 96 2 i)
     pub endpoint-table-maxstreams-cells : (x : EndpointTableFields) (i : ℕ)
-        → optional32_of x.maxstreams (number_under "max streams" (EndpointTable x) i) ≡ optional32_of x.maxstreams (cell_at (endpoint_bytes x) (cond x.maxpacket 160 96) 4 i)
+        → then_some x.maxstreams (number_under "max streams" (EndpointTable x) i) ≡ then_some x.maxstreams (cell_at (endpoint_bytes x) (cond x.maxpacket 160 96) 4 i)
     pub endpoint-row-type : (x : EndpointTableFields) (i : ℕ) → (endpoint_row x body i).ty ≡ number_under "type" (EndpointTable x) i
     pub endpoint-row-interval : (x : EndpointTableFields) (i : ℕ) → (endpoint_row x body i).interval ≡ number_under "interval" (EndpointTable x) i
     pub endpoint-row-interface : (x : EndpointTableFields) (i : ℕ) → (endpoint_row x body i).interface ≡ number_under "interface" (EndpointTable x) i
-    pub endpoint-row-maxpacket : (x : EndpointTableFields) (i : ℕ) → (endpoint_row x body i).maxpacket ≡ optional16_of x.maxpacket (number_under "max packet" (EndpointTable x) i)
-    pub endpoint-row-maxstreams : (x : EndpointTableFields) (i : ℕ) → (endpoint_row x body i).maxstreams ≡ optional32_of x.maxstreams (number_under "max streams" (EndpointTable x) i)
+    pub endpoint-row-maxpacket : (x : EndpointTableFields) (i : ℕ) → (endpoint_row x body i).maxpacket ≡ then_some x.maxpacket (number_under "max packet" (EndpointTable x) i)
+    pub endpoint-row-maxstreams : (x : EndpointTableFields) (i : ℕ) → (endpoint_row x body i).maxstreams ≡ then_some x.maxstreams (number_under "max streams" (EndpointTable x) i)
     pub set-configuration-configuration : (x : SetConfigurationFields) → says "configuration" (SetConfiguration x) ≡ x.configuration
     pub configuration-status-status : (x : ConfigurationStatusFields) → says "status" (ConfigurationStatus x) ≡ x.status
     pub configuration-status-configuration : (x : ConfigurationStatusFields) → says "configuration" (ConfigurationStatus x) ≡ x.configuration

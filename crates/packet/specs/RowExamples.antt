@@ -1,14 +1,11 @@
 -- Worked examples, each by computation: a hello's version and words, and rows of the two tables.
 -- Assumes nothing.
-use Rattle.std.specs.Prelude.{ℕ, zero, suc, ◌+◌, ◌*◌, ◌%◌, ◌≡◌, refl, true, false, List, [], ◌∷◌, ◌++◌}
+use Rattle.std.specs.Prelude.{ℕ, zero, suc, ◌+◌, ◌*◌, ◌%◌, ◌≡◌, refl, true, false, List, [], ◌∷◌, ◌++◌, Option, Some, None}
 use Rattle.packet.specs.declared.Part.{Part}
-use Rattle.packet.specs.declared.Optional16.TheVariants.{Absent, Present}
 use Rattle.packet.specs.Packet.{in_part}
 use Rattle.kinds.specs.Table.{kinds}
 use Rattle.kinds.specs.Codec.{layout}
 use Rattle.packet.specs.declared.InterfaceRow.{InterfaceRow}
-use Rattle.packet.specs.declared.Optional32.{Optional32}
-use Rattle.packet.specs.declared.Optional32.TheVariants.{Absent as Absent32, Present as Present32}
 use Rattle.packet.specs.Rows.{interface_row, endpoint_row, word_of}
 
 -- n bytes, each one more than the last, from i on
@@ -29,21 +26,21 @@ part a e = record { start = a; end = e }
 abbrev version : ℕ → List ℕ → List ℕ
 version n body = in_part (part 0 64) body
 
-abbrev word : ℕ → List ℕ → ℕ → Optional32
+abbrev word : ℕ → List ℕ → ℕ → Option ℕ
 word n body i = word_of (in_part (part 64 n) body) i
 
 -- with 8 words of the bytes 1 to 32, with 9, with one, with none
 pub hellos : (version 96 (hello (run 32 1)) ≡ run 64 100)
-    × (word 96 (hello (run 32 1)) 0 ≡ Present32 (1 + 256 * 2 + 65536 * 3 + 16777216 * 4))
-    × (word 96 (hello (run 32 1)) 1 ≡ Present32 (5 + 256 * 6 + 65536 * 7 + 16777216 * 8))
-    × (word 96 (hello (run 32 1)) 7 ≡ Present32 (29 + 256 * 30 + 65536 * 31 + 16777216 * 32))
-    × (word 96 (hello (run 32 1)) 8 ≡ Absent32)
-    × (word 100 (hello (run 36 1)) 8 ≡ Absent32)
+    × (word 96 (hello (run 32 1)) 0 ≡ Some (1 + 256 * 2 + 65536 * 3 + 16777216 * 4))
+    × (word 96 (hello (run 32 1)) 1 ≡ Some (5 + 256 * 6 + 65536 * 7 + 16777216 * 8))
+    × (word 96 (hello (run 32 1)) 7 ≡ Some (29 + 256 * 30 + 65536 * 31 + 16777216 * 32))
+    × (word 96 (hello (run 32 1)) 8 ≡ None)
+    × (word 100 (hello (run 36 1)) 8 ≡ None)
     × (version 68 (hello (run 4 1)) ≡ run 64 100)
-    × (word 68 (hello (run 4 1)) 0 ≡ Present32 (1 + 256 * 2 + 65536 * 3 + 16777216 * 4))
-    × (word 68 (hello (run 4 1)) 1 ≡ Absent32)
+    × (word 68 (hello (run 4 1)) 0 ≡ Some (1 + 256 * 2 + 65536 * 3 + 16777216 * 4))
+    × (word 68 (hello (run 4 1)) 1 ≡ None)
     × (version 64 (hello []) ≡ run 64 100)
-    × (word 64 (hello []) 0 ≡ Absent32)
+    × (word 64 (hello []) 0 ≡ None)
 hellos = (refl, refl, refl, refl, refl, refl, refl, refl, refl, refl, refl)
 
 -- ---- "4: count u32, then 32 each of number, class, subclass, protocol."
@@ -61,9 +58,9 @@ interfaces = (refl, refl, refl, refl)
 -- ---- "5: 32 each of type, interval, interface, then max packet u16, max streams u32."
 
 -- row 17 of a table of n bytes; a table with max streams has max packet too
-pub endpoints : (endpoint_row (record { rows = part 0 96; maxpacket = false; maxstreams = false }) (run 96 0) 17 ≡ record { ty = 17; interval = 49; interface = 81; maxpacket = Absent; maxstreams = Absent32 })
-    × (endpoint_row (record { rows = part 0 160; maxpacket = true; maxstreams = false }) (run 160 0) 17 ≡ record { ty = 17; interval = 49; interface = 81; maxpacket = Present (130 + 256 * 131); maxstreams = Absent32 })
-    × (endpoint_row (record { rows = part 0 288; maxpacket = true; maxstreams = true }) (run 288 0) 17 ≡ record { ty = 17; interval = 49; interface = 81; maxpacket = Present (130 + 256 * 131); maxstreams = Present32 (228 + 256 * 229 + 65536 * 230 + 16777216 * 231) })
-    × (endpoint_row (record { rows = part 0 288; maxpacket = true; maxstreams = true }) (run 288 0) 32 ≡ record { ty = 0; interval = 0; interface = 0; maxpacket = Present 0; maxstreams = Present32 0 })
+pub endpoints : (endpoint_row (record { rows = part 0 96; maxpacket = false; maxstreams = false }) (run 96 0) 17 ≡ record { ty = 17; interval = 49; interface = 81; maxpacket = None; maxstreams = None })
+    × (endpoint_row (record { rows = part 0 160; maxpacket = true; maxstreams = false }) (run 160 0) 17 ≡ record { ty = 17; interval = 49; interface = 81; maxpacket = Some (130 + 256 * 131); maxstreams = None })
+    × (endpoint_row (record { rows = part 0 288; maxpacket = true; maxstreams = true }) (run 288 0) 17 ≡ record { ty = 17; interval = 49; interface = 81; maxpacket = Some (130 + 256 * 131); maxstreams = Some (228 + 256 * 229 + 65536 * 230 + 16777216 * 231) })
+    × (endpoint_row (record { rows = part 0 288; maxpacket = true; maxstreams = true }) (run 288 0) 32 ≡ record { ty = 0; interval = 0; interface = 0; maxpacket = Some 0; maxstreams = Some 0 })
 unfolding endpoint_row layout kinds
 endpoints = (refl, refl, refl, refl)

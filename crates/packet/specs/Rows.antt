@@ -1,8 +1,8 @@
 -- The rows of the two tables, read by row, and a hello's words.
 -- Assumes nothing: these are definitions.
-use Rattle.std.specs.Prelude.{ℕ, ◌+◌, ◌*◌, Bool, true, cond, ◌&&◌, List, [], ◌∷◌, length, get_or, drop, leb, ltb}
+use Rattle.std.specs.Bool.{then_some}
+use Rattle.std.specs.Prelude.{ℕ, ◌+◌, ◌*◌, Bool, true, cond, ◌&&◌, List, [], ◌∷◌, length, get_or, drop, leb, ltb, Option, Some, None}
 use Prim.Native.String.{String}
-use Rattle.std.proofs.Math.Option.{none, some}
 use lib.Text.{eqt}
 use Rattle.octets.specs.Little.{le}
 use Rattle.kinds.specs.Table.{Field}
@@ -10,15 +10,13 @@ use Rattle.kinds.specs.Content.{Value, numbers}
 use Rattle.kinds.specs.Codec.{layout}
 use Rattle.packet.specs.declared.InterfaceTable.{InterfaceTable}
 use Rattle.packet.specs.declared.EndpointTable.{EndpointTable}
-use Rattle.packet.specs.Packet.{in_part, columns_of, columns_in, optional16_of}
+use Rattle.packet.specs.Packet.{in_part, columns_of, columns_in}
 use Rattle.packet.specs.declared.InterfaceRow.{InterfaceRow}
 use Rattle.packet.specs.declared.EndpointRow.{EndpointRow}
-use Rattle.packet.specs.declared.Optional32.{Optional32}
-use Rattle.packet.specs.declared.Optional32.TheVariants.{Absent, Present}
 
 abbrev pub numbers_of : Value → List ℕ
-numbers_of none = []
-numbers_of (some xs) = xs
+numbers_of None = []
+numbers_of (Some xs) = xs
 
 -- the numbers of the field of that name
 abbrev pub column : String → List Field → List Value → List ℕ
@@ -47,9 +45,6 @@ interface_row t body i =
 
 -- ---- endpoint tables, with max packet and max streams or without
 
-abbrev pub optional32_of : Bool → ℕ → Optional32
-optional32_of b x = cond b (Present x) Absent
-
 abbrev pub table_size : Bool → Bool → ℕ
 table_size packets streams = cond packets (cond streams 288 160) (cond streams 224 96)
 
@@ -61,14 +56,14 @@ endpoint_row t body i =
       ty = element "type" fs vs i;
       interval = element "interval" fs vs i;
       interface = element "interface" fs vs i;
-      maxpacket = optional16_of t.maxpacket (element "max packet" fs vs i);
-      maxstreams = optional32_of t.maxstreams (element "max streams" fs vs i);
+      maxpacket = then_some t.maxpacket (element "max packet" fs vs i);
+      maxstreams = then_some t.maxstreams (element "max streams" fs vs i);
     }
 
 -- ---- a hello's words: "n 0..8"
 
-abbrev pub word_of : List ℕ → ℕ → Optional32
-word_of words i = optional32_of (ltb i 8 && leb (4 * i + 4) (length words)) (le 4 words (4 * i))
+abbrev pub word_of : List ℕ → ℕ → Option ℕ
+word_of words i = then_some (ltb i 8 && leb (4 * i + 4) (length words)) (le 4 words (4 * i))
 
 -- ---- as the code reads it
 

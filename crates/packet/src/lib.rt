@@ -1,28 +1,22 @@
 // A packet as its own reading: a variant for each kind, with a struct of the kind's fields by the names of document 01.
-// What is too long for a number stays in the packet's body and is named by its part: a hello's version and words, the rows of
-// the two tables, a filter's string, data. Offsets count from the body's first byte.
+// What is too long for a number stays in the packet's body and is named by its part: a hello's version and words,
+// the rows of the two tables, a filter's string, data. Offsets count from the body's first byte.
 #![tactic(auto)]
 
-ghost use Rattle.std.specs.Prelude.{◌≡◌, ◌≤◌, ◌<◌, ◌^◌, [], ◌∷◌};
-ghost use Rattle.packet.specs.Packet.{in_part, rows_in, optional16_of, is_given, optional, rest_of, is_hello};
+ghost use Rattle.std.specs.Bool.{then_some};
+ghost use Rattle.std.specs.Prelude.{◌≡◌, ◌≤◌, ◌<◌, ◌^◌, [], ◌∷◌, cond, is_some};
+ghost use Rattle.packet.specs.Packet.{in_part, rows_in, rest_of, is_hello};
 ghost use Rattle.packet.specs.Fields.{or_zero, plain_fields, with_rows, with_rest, Lists};
-ghost use Rattle.packet.specs.Rows.{table_size, cell_at, interface_row, endpoint_row, optional32_of, word_of};
+ghost use Rattle.packet.specs.Rows.{table_size, cell_at, interface_row, endpoint_row, word_of};
 
 use endpoint::{Endpoint, Row};
-use octets::{choose, get, get32, has_bit, part};
+use octets::{get, get32, has_bit, part};
 
 // Bytes of the body from start up to end.
 #[derive(Clone, Copy)]
 pub struct Part {
     pub start: usize,
     pub end: usize,
-}
-
-// A field that is there only where its capability is shared.
-#[derive(Clone, Copy)]
-pub enum Optional16 {
-    Absent,
-    Present(u16),
 }
 
 #[derive(Clone, Copy)]
@@ -39,7 +33,8 @@ pub struct Connect {
     pub protocol: u8,
     pub vendor: u16,
     pub product: u16,
-    pub version: Optional16,
+    // there where its capability is shared
+    pub version: Option<u16>,
 }
 
 #[derive(Clone, Copy)]
@@ -245,27 +240,15 @@ pub enum Packet {
     BufferedBulk(BufferedBulk),
 }
 
-// A field that is there where b holds.
-pub fn given16(b: bool, x: u16) -> Optional16
-    ensures { result ≡ optional16_of b x }
-{
-    if b {
-        Optional16::Present(x)
-    } else {
-        Optional16::Absent
-    }
-}
-
 // The bytes that a part names, as far as the body has them.
 pub fn part_of(body: &[u8], p: Part) -> &[u8]
     ensures { result.now ≡ in_part p body.now }
 {
-    let a = p.start;
-    let e = p.end;
-    part(body, a, e)
+    part(body, p.start, p.end)
 }
 
-// The part of the body that follows the fields: a hello's words, a filter's string, data; an empty one in the other kinds.
+// The part of the body that follows the fields: a hello's words, a filter's string, data; an empty one in the other
+// kinds.
 pub fn rest_of(p: Packet) -> Part
     ensures { result ≡ rest_of p }
 {
@@ -285,16 +268,14 @@ pub fn rest_of(p: Packet) -> Part
 pub fn is_hello(p: Packet) -> bool
     ensures { result ≡ is_hello p }
 {
-    match p {
-        Packet::Hello(_) => true,
-        _ => false,
-    }
+    matches!(p, Packet::Hello(_))
 }
 
 // ---- a packet by its fields
 
-// The kind's place in the table; the fields that the packet holds as numbers, in body order, and how many of them are there; the part of the body with the
-// fields that are many numbers; the part that follows all fields. A number that is not there is 0, a part an empty one.
+// The kind's place in the table; the fields that the packet holds as numbers, in body order, and how many of them
+// are there; the part of the body with the fields that are many numbers; the part that follows all fields. A number
+// that is not there is 0, a part an empty one.
 #[derive(Clone, Copy)]
 pub struct Fields {
     pub slot: usize,
@@ -304,25 +285,14 @@ pub struct Fields {
     pub rest: Part,
 }
 
-pub fn is_given(x: Optional16) -> bool
-    ensures { result ≡ is_given x }
-{
-    match x {
-        Optional16::Absent => false,
-        Optional16::Present(_) => true,
-    }
-}
-
 // The number of a field, 0 where it is not there.
-pub fn value16(x: Optional16) -> u64
-    ensures { (result ≡ or_zero (optional x)) × (result < 65536) }
+pub fn value16(x: Option<u16>) -> u64
+    ensures { (result ≡ or_zero x) × (result < 65536) }
 {
-    match x {
-        Optional16::Absent => 0,
-        Optional16::Present(n) => n as u64,
-    }
+    u64::from(x.unwrap_or(0))
 }
 
+// Seven numbers; `few` says the four of most kinds, and the zeros behind them once.
 fn many(slot: usize, count: usize, a: u64, b: u64, c: u64, d: u64, e: u64, f: u64, g: u64) -> Fields
     ensures { result ≡ plain_fields slot count (a ∷ b ∷ c ∷ d ∷ e ∷ f ∷ g ∷ []) }
 {
@@ -341,55 +311,47 @@ fn few(slot: usize, count: usize, a: u64, b: u64, c: u64, d: u64) -> Fields
     many(slot, count, a, b, c, d, 0, 0, 0)
 }
 
+// The fields of a connect packet, with its version or without.
+fn connect_count(version: Option<u16>) -> usize
+    ensures { result ≡ cond (is_some version) 7 6 }
+{
+    if version.is_some() { 7 } else { 6 }
+}
+
 fn with_rows(f: Fields, rows: Part) -> Fields
     ensures { result ≡ with_rows f rows }
 {
-    let mut g = f;
-    g.rows = rows;
-    g
+    Fields { rows, ..f }
 }
 
 fn with_rest(f: Fields, rest: Part) -> Fields
     ensures { result ≡ with_rest f rest }
 {
-    let mut g = f;
-    g.rest = rest;
-    g
+    Fields { rest, ..f }
 }
 
 pub fn fields_of(caps: u32, p: Packet) -> Fields
     ensures { Lists caps p result }
 {
     match p {
-        Packet::Hello(x) => {
-            let version = x.version;
-            let words = x.words;
-            with_rest(with_rows(few(0, 0, 0, 0, 0, 0), version), words)
-        }
+        Packet::Hello(x) => { with_rest(with_rows(few(0, 0, 0, 0, 0, 0), x.version), x.words) }
         Packet::Connect(x) => {
-            let version = x.version;
             many(
                 1,
-                choose(is_given(version), 7, 6),
+                connect_count(x.version),
                 x.speed as u64,
                 x.class as u64,
                 x.subclass as u64,
                 x.protocol as u64,
                 x.vendor as u64,
                 x.product as u64,
-                value16(version),
+                value16(x.version),
             )
         }
         Packet::Disconnect => few(2, 0, 0, 0, 0, 0),
         Packet::Reset => few(3, 0, 0, 0, 0, 0),
-        Packet::InterfaceTable(x) => {
-            let rows = x.rows;
-            with_rows(few(4, 1, x.count as u64, 0, 0, 0), rows)
-        }
-        Packet::EndpointTable(x) => {
-            let rows = x.rows;
-            with_rows(few(5, 0, 0, 0, 0, 0), rows)
-        }
+        Packet::InterfaceTable(x) => { with_rows(few(4, 1, x.count as u64, 0, 0, 0), x.rows) }
+        Packet::EndpointTable(x) => { with_rows(few(5, 0, 0, 0, 0, 0), x.rows) }
         Packet::SetConfiguration(x) => few(6, 1, x.configuration as u64, 0, 0, 0),
         Packet::GetConfiguration => few(7, 0, 0, 0, 0, 0),
         Packet::ConfigurationStatus(x) => few(8, 2, x.status as u64, x.configuration as u64, 0, 0),
@@ -414,10 +376,7 @@ pub fn fields_of(caps: u32, p: Packet) -> Fields
         Packet::StreamsStatus(x) => few(20, 3, x.mask as u64, x.count as u64, x.status as u64, 0),
         Packet::Cancel => few(21, 0, 0, 0, 0, 0),
         Packet::FilterReject => few(22, 0, 0, 0, 0, 0),
-        Packet::Filter(x) => {
-            let string = x.string;
-            with_rest(few(23, 0, 0, 0, 0, 0), string)
-        }
+        Packet::Filter(x) => { with_rest(few(23, 0, 0, 0, 0, 0), x.string) }
         Packet::DisconnectAck => few(24, 0, 0, 0, 0, 0),
         Packet::StartBulkReceiving(x) => few(
             25,
@@ -437,7 +396,6 @@ pub fn fields_of(caps: u32, p: Packet) -> Fields
             0,
         ),
         Packet::Control(x) => {
-            let payload = x.payload;
             with_rest(
                 many(
                     28,
@@ -450,15 +408,16 @@ pub fn fields_of(caps: u32, p: Packet) -> Fields
                     x.index as u64,
                     x.length as u64,
                 ),
-                payload,
+                x.payload,
             )
         }
         Packet::Bulk(x) => {
-            let payload = x.payload;
+            let is_high = has_bit(caps, 6) | (65535 < x.length);
+            let count = if is_high { 5 } else { 4 };
             with_rest(
                 many(
                     29,
-                    choose(has_bit(caps, 6) | (65535 < x.length), 5, 4),
+                    count,
                     x.endpoint.0 as u64,
                     x.status as u64,
                     (x.length % 65536) as u64,
@@ -467,11 +426,10 @@ pub fn fields_of(caps: u32, p: Packet) -> Fields
                     0,
                     0,
                 ),
-                payload,
+                x.payload,
             )
         }
         Packet::Iso(x) => {
-            let payload = x.payload;
             with_rest(
                 few(
                     30,
@@ -481,11 +439,10 @@ pub fn fields_of(caps: u32, p: Packet) -> Fields
                     x.length as u64,
                     0,
                 ),
-                payload,
+                x.payload,
             )
         }
         Packet::Interrupt(x) => {
-            let payload = x.payload;
             with_rest(
                 few(
                     31,
@@ -495,11 +452,10 @@ pub fn fields_of(caps: u32, p: Packet) -> Fields
                     x.length as u64,
                     0,
                 ),
-                payload,
+                x.payload,
             )
         }
         Packet::BufferedBulk(x) => {
-            let payload = x.payload;
             with_rest(
                 few(
                     32,
@@ -509,20 +465,13 @@ pub fn fields_of(caps: u32, p: Packet) -> Fields
                     x.endpoint.0 as u64,
                     x.status as u64,
                 ),
-                payload,
+                x.payload,
             )
         }
     }
 }
 
 // ---- what a packet leaves in its body, read by row: the rows of the two tables, a hello's version and words
-
-// A word or a column's number that may not be there.
-#[derive(Clone, Copy)]
-pub enum Optional32 {
-    Absent,
-    Present(u32),
-}
 
 // One of the 32 interfaces of an interface table.
 #[derive(Clone, Copy)]
@@ -540,8 +489,8 @@ pub struct EndpointRow {
     pub ty: u8,
     pub interval: u8,
     pub interface: u8,
-    pub maxpacket: Optional16,
-    pub maxstreams: Optional32,
+    pub maxpacket: Option<u16>,
+    pub maxstreams: Option<u32>,
 }
 
 // Number i of a column of 32 numbers of w bytes each that starts at `at`; 0 past the column, or where it is cut short.
@@ -549,14 +498,13 @@ fn cell(rows: &[u8], at: usize, w: usize, i: usize) -> u64
     requires { (at ≤ 1024) × (0 < w) × (w ≤ 8) }
     ensures { (result ≡ cell_at rows.now at w i) × (result < 256 ^ w) }
 {
-    if i < 32 {
-        if at + w * 32 <= rows.len() {
-            return get(rows, at + i * w, w);
-        }
+    if i < 32 && at + w * 32 <= rows.len() {
+        return get(rows, at + i * w, w);
     }
     0
 }
 
+// A cell of one byte, as a byte.
 fn cell8(rows: &[u8], at: usize, i: usize) -> u8
     requires { at ≤ 1024 }
     ensures { result ≡ cell_at rows.now at 1 i }
@@ -579,8 +527,7 @@ pub fn rows_in(body: &[u8], rows: Part, size: usize) -> &[u8]
 pub fn interface_row(body: &[u8], t: InterfaceTable, i: usize) -> InterfaceRow
     ensures { result ≡ interface_row t body.now i }
 {
-    let rows = t.rows;
-    let s = rows_in(body, rows, 128);
+    let s = rows_in(body, t.rows, 128);
     InterfaceRow {
         interface: cell8(s, 0, i),
         class: cell8(s, 32, i),
@@ -589,52 +536,44 @@ pub fn interface_row(body: &[u8], t: InterfaceTable, i: usize) -> InterfaceRow
     }
 }
 
-fn given32(b: bool, x: u32) -> Optional32
-    ensures { result ≡ optional32_of b x }
-{
-    if b {
-        Optional32::Present(x)
-    } else {
-        Optional32::Absent
-    }
-}
-
 // The bytes of an endpoint table, with max packet and max streams or without.
 pub fn table_size(packets: bool, streams: bool) -> usize
     ensures { result ≡ table_size packets streams }
 {
-    choose(packets, choose(streams, 288, 160), choose(streams, 224, 96))
+    match (packets, streams) {
+        (true, true) => 288,
+        (true, false) => 160,
+        (false, true) => 224,
+        (false, false) => 96,
+    }
 }
 
 // A row of an endpoint table; all 0 past row 31.
 pub fn endpoint_row(body: &[u8], t: EndpointTable, row: Row) -> EndpointRow
     ensures { result ≡ endpoint_row t body.now row.0 }
 {
-    let rows = t.rows;
     let packets = t.maxpacket;
     let streams = t.maxstreams;
-    let s = rows_in(body, rows, table_size(packets, streams));
+    let s = rows_in(body, t.rows, table_size(packets, streams));
     let i = row.0 as usize;
-    let at = choose(packets, 160, 96);
+    // max streams stand behind the other columns
+    let at = table_size(packets, false);
     EndpointRow {
         ty: cell8(s, 0, i),
         interval: cell8(s, 32, i),
         interface: cell8(s, 64, i),
-        maxpacket: given16(packets, cell(s, 96, 2, i) as u16),
-        maxstreams: given32(streams, cell(s, at, 4, i) as u32),
+        maxpacket: packets.then_some(cell(s, 96, 2, i) as u16),
+        maxstreams: streams.then_some(cell(s, at, 4, i) as u32),
     }
 }
 
 // Capability word i of a hello, of which there are at most 8.
-pub fn word_of(body: &[u8], h: Hello, i: usize) -> Optional32
+pub fn word_of(body: &[u8], h: Hello, i: usize) -> Option<u32>
     ensures { result ≡ word_of (in_part h.words body.now) i }
 {
-    let words = h.words;
-    let s = part_of(body, words);
-    if i < 8 {
-        if 4 * i + 4 <= s.len() {
-            return Optional32::Present(get32(s, 4 * i));
-        }
+    let words = part_of(body, h.words);
+    if i < 8 && 4 * i + 4 <= words.len() {
+        return Some(get32(words, 4 * i));
     }
-    Optional32::Absent
+    None
 }

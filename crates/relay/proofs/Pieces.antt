@@ -1,18 +1,17 @@
--- What the relay's loop over an end's bytes keeps (`Offering`), from its start (`starts`) over each call (`goes_on`) to its end (`all-offered`).
+-- What the relay's loop over an end's bytes keeps (`Offering`), from its start (`starts`) over each call (`goes_on`) to its end, where the bytes are
+-- used up (`used-up`), a call took nothing (`barred_here`), or a packet could not be sent on (`not_sent`).
 -- By the gate's contract a call is the next of `after`. That it takes no more than it is offered is demand 1. The loop goes on only where something
--- was taken, so that it ends (`less`).
+-- was taken, so that it ends.
 -- Assumes nothing.
-use Prim.Native.Nat.{ℕ, suc, ◌+◌, ◌-◌, ◌≤◌, ◌<◌, min}
+use Prim.Native.Nat.{ℕ, suc, ◌+◌, ◌-◌, ◌≤◌, min}
 use native.Mathlib.Omega.{arith}
 use mathlib.Core.Path.{◌≡◌, refl, sym, ap, ◌∙◌}
-use mathlib.Core.Bool.{Bool, true, false, cond, not, ◌&&◌, ◌||◌, true≢false, false≢true}
+use mathlib.Core.Bool.{Bool, true, false, ◌||◌, true≢false, false≢true}
 use mathlib.Core.Logic.{◌⊎◌, inl, inr}
 use mathlib.Core.List.{List}
 use lib.ListN.{length, drop, length-drop}
-use lib.Seq.{sets, slice}
+use lib.Seq.{sets, slice, drop-drop}
 use lib.Dec.{ltb}
-use borrow.Author.Tests.{ltb-true, ltb-false, not-false}
-use Rattle.octets.proofs.Logic.{and_parts}
 use Rattle.header.specs.declared.Side.{Side}
 use Rattle.session.specs.declared.Session.{Session}
 use Rattle.session.specs.Session.{link_of}
@@ -22,72 +21,73 @@ use Rattle.demands.proofs.Demand1.{demand-1}
 use Rattle.relay.specs.declared.Relay.{Relay}
 use Rattle.relay.specs.Relaying.{CallsMade, answer, after, Barred, OffersAll, halts, RelaysPiece}
 
--- the calls so far took `at` bytes; where the loop does not go on though all was sent, the last call took nothing
-pub record Offering (from : Side) (s : Session) (hold₀ bytes hold : List ℕ) (session : Session) (at : ℕ) (sent more : Bool) : Type 0 where
+-- the calls so far left this rest of the bytes
+pub record Offering (from : Side) (s : Session) (hold₀ bytes hold : List ℕ) (session : Session) (rest : List ℕ) : Type 0 where
   pub calls : ℕ
-  pub state : record { session = session; hold = hold; taken = at } ≡ after calls from bytes s hold₀
-  pub within : at ≤ length bytes
-  pub barred : more ≡ false → sent ≡ true → Barred calls from bytes s hold₀
+  pub taken : ℕ
+  pub state : record { session = session; hold = hold; taken = taken } ≡ after calls from bytes s hold₀
+  pub within : taken ≤ length bytes
+  pub left : rest ≡ drop taken bytes
 
-pub starts : {from : Side} {s : Session} {hold bytes : List ℕ} → Offering from s hold bytes hold s 0 true true
+pub starts : {from : Side} {s : Session} {hold bytes : List ℕ} → Offering from s hold bytes hold s bytes
 unfolding after
-starts = record { calls = 0; state = refl; within = omega arith; barred = λ e z. absurd (true≢false e) }
+starts = record { calls = 0; taken = 0; state = refl; within = omega arith; left = refl }
 
--- how many turns can still come
-abbrev pub turns_left : List ℕ → ℕ → Bool → ℕ
-turns_left bytes at more = cond more (suc (length bytes - at)) 0
-
-module _ {from : Side} {s : Session} {hold₀ bytes hold : List ℕ} {session : Session} {at : ℕ} {sent more : Bool} (p : Offering from s hold₀ bytes hold session at sent more) where
-  module _ (o : Offered) {piece hold-after : List ℕ} (e : piece ≡ drop at bytes) (q : outcome (link_of from session) o piece hold-after ≡ offer_of from session hold piece) where
-    told : outcome (link_of from session) o piece hold-after ≡ answer from bytes (after p.calls from bytes s hold₀)
-    told = q ∙ ap (offer_of from session hold) e ∙ ap (answer from bytes) p.state
-
-    pub few : at + o.answer.taken ≤ length bytes
-    few = omega (arith, p.within, (demand-1.read from session hold piece).taken, ap (λ (x : Outcome). x.taken) q, ap length e, length-drop at bytes)
-
-    pub goes_on : (b : Bool) → Offering from s hold₀ bytes hold-after o.session (at + o.answer.taken) b (b && ltb 0 o.answer.taken)
-    unfolding after
-    goes_on b =
-        record {
-          calls = suc p.calls;
-          state = λ i. record { session = (told i).session; hold = (told i).hold; taken = (p.state i).taken + (told i).taken };
-          within = few;
-          barred = λ m z. record { before = p.calls; last = refl; nothing = nothing m z };
-        }
-      where
-        nothing : (b && ltb 0 o.answer.taken) ≡ false → b ≡ true → (answer from bytes (after p.calls from bytes s hold₀)).taken ≡ 0
-        nothing m z =
-            let t : ltb 0 o.answer.taken ≡ false = rw z at m in
-            omega (arith, ltb-false 0 o.answer.taken t, ap (λ (x : Outcome). x.taken) told)
-
-    pub less : (more && ltb at (length bytes)) ≡ true → (b : Bool) → turns_left bytes (at + o.answer.taken) (b && ltb 0 o.answer.taken) < turns_left bytes at more
-    less t b =
-        let m = and_parts more (ltb at (length bytes)) t in
-        rw m.0 (go (b && ltb 0 o.answer.taken) refl (ltb-true at (length bytes) m.1))
-      where
-        go : (d : Bool) → (b && ltb 0 o.answer.taken) ≡ d → at < length bytes → turns_left bytes (at + o.answer.taken) d < suc (length bytes - at)
-        go true ed h = omega (arith, ltb-true 0 o.answer.taken (and_parts b (ltb 0 o.answer.taken) ed).1)
-        go false ed h = omega arith
-
-  pub all-offered : (more && ltb at (length bytes)) ≡ false
-      → OffersAll from s hold₀ bytes (record { session = session; waiting = length bytes - at; over = not sent || session.head.stopped }) hold
-  all-offered t =
-      let m : at ≡ (after p.calls from bytes s hold₀).taken = ap (λ (c : CallsMade). c.taken) p.state in
+module _ {from : Side} {s : Session} {hold₀ bytes hold : List ℕ} {session : Session} {rest : List ℕ} (p : Offering from s hold₀ bytes hold session rest) where
+  -- what ended the calls, where none of them failed
+  all_offered : {w : ℕ} (failed : Bool) {over : Bool} → w ≡ length rest → over ≡ (failed || session.head.stopped)
+      → (failed ≡ false → (length rest ≤ 0) ⊎ Barred p.calls from bytes s hold₀)
+      → OffersAll from s hold₀ bytes (record { session = session; waiting = w; over = over }) hold
+  all_offered failed ew eo e =
+      let m : p.taken ≡ (after p.calls from bytes s hold₀).taken = ap (λ (c : CallsMade). c.taken) p.state in
       record {
         calls = p.calls;
         session = ap (λ (c : CallsMade). c.session) p.state;
         buffer = ap (λ (c : CallsMade). c.hold) p.state;
         within = omega (arith, m, p.within);
-        waiting = omega (arith, m);
-        failed = not sent;
-        over = refl;
-        ended = λ z. go more refl t (not-false sent z);
+        waiting = omega (arith, ew, m, ap length p.left, length-drop p.taken bytes);
+        failed = failed;
+        over = eo;
+        ended = λ z. go m (e z);
       }
     where
-      go : (b : Bool) → more ≡ b → (b && ltb at (length bytes)) ≡ false → sent ≡ true
+      go : p.taken ≡ (after p.calls from bytes s hold₀).taken → (length rest ≤ 0) ⊎ Barred p.calls from bytes s hold₀
           → (length bytes ≤ (after p.calls from bytes s hold₀).taken) ⊎ Barred p.calls from bytes s hold₀
-      go true em u z = inl (omega (arith, ltb-false at (length bytes) u, ap (λ (c : CallsMade). c.taken) p.state))
-      go false em u z = inr (p.barred em z)
+      go m (inl h) = inl (omega (arith, m, h, ap length p.left, length-drop p.taken bytes))
+      go m (inr b) = inr b
+
+module _ {from : Side} {s : Session} {hold₀ bytes hold : List ℕ} {session : Session} {rest : List ℕ} (p : Offering from s hold₀ bytes hold session rest) where
+  pub used-up : length rest ≤ 0 → OffersAll from s hold₀ bytes (record { session = session; waiting = length rest; over = session.head.stopped }) hold
+  used-up h = all_offered p false refl refl (λ z. inl h)
+
+  module _ (o : Offered) {hold-after : List ℕ} (q : outcome (link_of from session) o rest hold-after ≡ offer_of from session hold rest) where
+    told : outcome (link_of from session) o rest hold-after ≡ answer from bytes (after p.calls from bytes s hold₀)
+    told = q ∙ ap (offer_of from session hold) p.left ∙ ap (answer from bytes) p.state
+
+    pub few : o.answer.taken ≤ length rest
+    few = omega (arith, (demand-1.read from session hold rest).taken, ap (λ (x : Outcome). x.taken) q)
+
+    pub goes_on : {rest-after : List ℕ} → rest-after ≡ drop o.answer.taken rest → Offering from s hold₀ bytes hold-after o.session rest-after
+    unfolding after
+    goes_on e =
+        record {
+          calls = suc p.calls;
+          taken = p.taken + o.answer.taken;
+          state = λ i. record { session = (told i).session; hold = (told i).hold; taken = (p.state i).taken + (told i).taken };
+          within = omega (arith, few, p.within, ap length p.left, length-drop p.taken bytes);
+          left = e ∙ ap (drop o.answer.taken) p.left ∙ drop-drop o.answer.taken p.taken bytes;
+        }
+
+    -- the last call took nothing, or a packet of it could not be sent on
+    module _ {rest-after : List ℕ} {w : ℕ} (e : rest-after ≡ drop o.answer.taken rest) (ew : w ≡ length rest-after) where
+      pub barred_here : o.answer.taken ≡ 0 → OffersAll from s hold₀ bytes (record { session = o.session; waiting = w; over = o.session.head.stopped }) hold-after
+      unfolding goes_on
+      barred_here z =
+          let nothing : (answer from bytes (after p.calls from bytes s hold₀)).taken ≡ 0 = sym (ap (λ (x : Outcome). x.taken) told) ∙ z in
+          all_offered (goes_on e) false ew refl (λ f. inr (record { before = p.calls; last = refl; nothing = nothing }))
+
+      pub not_sent : OffersAll from s hold₀ bytes (record { session = o.session; waiting = w; over = true }) hold-after
+      not_sent = all_offered (goes_on e) true ew refl (λ f. absurd (true≢false f))
 
 -- ---- a piece
 

@@ -8,8 +8,9 @@ ghost use Rattle.relay.specs.Relaying.{OffersAll, RelaysPiece};
 
 use gate::{bytes_of, offer};
 use header::{HOLD_SIZE, Side, side_of};
-use octets::{get8, get16, lay, minimum, part, put, saturating_sub};
+use octets::{get16, lay, part, put};
 use session::{Session, fresh_session};
+use std::io;
 use std::io::{Print, Read, Stdin, Stdout};
 
 // The session; the bytes that wait; and whether the relay is over. Only one end's bytes can wait: those of the end whose hello passed first.
@@ -21,9 +22,9 @@ struct Relay {
 }
 
 // Sends a packet on, where it passed. Any other is dropped.
-fn forward(stdout: Stdout, number: u8, from: Side, packet: &[u8]) -> bool {
+fn forward(stdout: Stdout, number: u8, from: Side, packet: &[u8]) -> io::Result<()> {
     if number != 0 {
-        return true;
+        return Ok(());
     }
     let tag = match from {
         Side::Guest => 0,
@@ -31,64 +32,41 @@ fn forward(stdout: Stdout, number: u8, from: Side, packet: &[u8]) -> bool {
     };
     let mut head = [tag, 0, 0];
     put(&mut head, 1, 2, packet.len() as u64);
-    if stdout.write_all(&head).is_err() {
-        return false;
-    }
-    stdout.write_all(packet).is_ok()
+    stdout.write_all(&head)?;
+    stdout.write_all(packet)
 }
 
-// Offers bytes of an end until they are used up, or a call takes none. The rest then waits for the other end's hello, at 2; at 3 the relay is over.
+// Offers bytes of an end until they are used up, or a call takes none. The rest then waits for the other end's hello, at 2; at 3 the relay is
+// over, and where a packet can't be sent on.
 fn offer_all(stdout: Stdout, s: Session, from: Side, hold: &mut [u8], bytes: &[u8]) -> Relay
     ensures { OffersAll from s hold.old bytes.now result hold.new }
 {
     let mut session = s;
-    let mut at: usize = 0;
-    let mut sent = true;
-    let mut open = true;
-    while open & (at < bytes.len()) {
-        let piece = &bytes[at..];
-        let o = offer(session, from, hold, piece);
+    let mut rest = bytes;
+    // a turn takes as many bytes as the call says
+    while 0 < rest.len() {
+        let o = offer(session, from, hold, rest);
         let a = o.answer;
         session = o.session;
-        at = at + a.taken;
-        sent = forward(stdout, a.number, from, bytes_of(a, piece, hold));
-        open = sent & (0 < a.taken);
+        let sent = forward(stdout, a.number, from, bytes_of(a, rest, hold));
+        rest = &rest[a.taken..];
+        if sent.is_err() {
+            return Relay {
+                session,
+                waiting: rest.len(),
+                over: true,
+            };
+        }
+        if a.taken == 0 {
+            break;
+        }
     }
-    let head = session.head;
+    let over = session.head.stopped;
     Relay {
         session,
-        waiting: bytes.len() - at,
-        over: !sent | head.stopped,
+        waiting: rest.len(),
+        over,
     }
-}
-
-// Relays a piece of an end. What is left of it is kept behind the bytes that wait, which are its own; where nothing is left, these are the other
-// end's and offered again.
-fn relay_piece(
-    stdout: Stdout,
-    p: Relay,
-    from: Side,
-    hold: &mut [u8],
-    to: Side,
-    other: &mut [u8],
-    piece: &[u8],
-    kept: &mut [u8],
-) -> Relay
-    ensures { RelaysPiece p from to hold.old other.old piece.now kept.old result hold.new other.new kept.new }
-{
-    let n = p.waiting;
-    let session = p.session;
-    let mut next = offer_all(stdout, session, from, hold, piece);
-    let left = next.waiting;
-    if (0 < left) | (piece.len() == 0) | next.over {
-        let room = saturating_sub(kept.len(), n);
-        lay(kept, n, part(piece, piece.len() - left, piece.len()));
-        next.waiting = n + minimum(left, room);
-        next.over = next.over | (room < left);
-        return next;
-    }
-    let session = next.session;
-    offer_all(stdout, session, to, other, part(kept, 0, n))
 }
 
 // Reads until the buffer is full, or nothing more comes, and tells how many bytes came.
@@ -97,44 +75,85 @@ fn read_full(stdin: Stdin, buffer: &mut [u8]) -> usize
 {
     let mut source = stdin;
     let mut n: usize = 0;
+    // a turn reads as many bytes as come
     while n < buffer.len() {
         match source.read(&mut buffer[n..]) {
-            Ok(got) => {
-                if got == 0 {
-                    return n;
-                }
-                n += got;
-            }
-            Err(_) => return n,
+            Ok(0) | Err(_) => break,
+            Ok(got) => n += got,
         }
     }
     n
 }
 
-// A record is read, and its piece relayed. The input ends where no record comes.
-fn step(
-    stdin: Stdin,
-    stdout: Stdout,
-    p: Relay,
-    guest: &mut [u8; HOLD_SIZE],
-    host: &mut [u8; HOLD_SIZE],
-    kept: &mut [u8; 65536],
-) -> Relay {
-    let mut head = [0u8; 3];
-    let mut bytes = [0u8; 65536];
-    let ended = read_full(stdin, &mut head) < 3;
-    let n = get16(&head, 1) as usize;
-    let size = read_full(stdin, &mut bytes[..n]);
-    let piece = part(&bytes, 0, size);
-    let mut next = match side_of(get8(&head, 0)) {
-        Side::Guest => relay_piece(stdout, p, Side::Guest, guest, Side::Host, host, piece, kept),
-        Side::Host => relay_piece(stdout, p, Side::Host, host, Side::Guest, guest, piece, kept),
-    };
-    next.over = next.over | ended;
-    next
+impl Relay {
+    // Relays a piece of an end. What is left of it is kept behind the bytes that wait, which are its own; where nothing is left, these are
+    // the other end's and offered again.
+    fn relay_piece(
+        &mut self,
+        stdout: Stdout,
+        from: Side,
+        hold: &mut [u8],
+        to: Side,
+        other: &mut [u8],
+        piece: &[u8],
+        kept: &mut [u8],
+    )
+        ensures { RelaysPiece self.old from to hold.old other.old piece.now kept.old self.new hold.new other.new kept.new }
+    {
+        let n = self.waiting;
+        let offered = offer_all(stdout, self.session, from, hold, piece);
+        let left = offered.waiting;
+        if (0 < left) | (piece.len() == 0) | offered.over {
+            let room = kept.len().saturating_sub(n);
+            lay(kept, n, part(piece, piece.len() - left, piece.len()));
+            self.session = offered.session;
+            self.waiting = n + left.min(room);
+            self.over = offered.over | (room < left);
+        } else {
+            *self = offer_all(stdout, offered.session, to, other, part(kept, 0, n));
+        }
+    }
+
+    // A record is read, and its piece relayed. The input ends where no record comes.
+    fn step(
+        &mut self,
+        stdin: Stdin,
+        stdout: Stdout,
+        guest: &mut [u8; HOLD_SIZE],
+        host: &mut [u8; HOLD_SIZE],
+        kept: &mut [u8; 65536],
+    ) {
+        let mut head = [0u8; 3];
+        let mut bytes = [0u8; 65536];
+        let ended = read_full(stdin, &mut head) < 3;
+        let n = get16(&head, 1) as usize;
+        let size = read_full(stdin, &mut bytes[..n]);
+        let piece = part(&bytes, 0, size);
+        match side_of(head[0]) {
+            Side::Guest => self.relay_piece(
+                stdout,
+                Side::Guest,
+                guest,
+                Side::Host,
+                host,
+                piece,
+                kept,
+            ),
+            Side::Host => self.relay_piece(
+                stdout,
+                Side::Host,
+                host,
+                Side::Guest,
+                guest,
+                piece,
+                kept,
+            ),
+        }
+        self.over |= ended;
+    }
 }
 
-// A proved loop has to end, and nothing says that the input does. So the loop counts its turns down, from a number that no run uses up.
+// A proved loop has to end, and nothing says that the input does. So the turns have a limit, a number that no run uses up.
 fn run(
     stdin: Stdin,
     stdout: Stdout,
@@ -142,16 +161,16 @@ fn run(
     host: &mut [u8; HOLD_SIZE],
     kept: &mut [u8; 65536],
 ) {
-    let session = fresh_session();
     let mut p = Relay {
-        session,
+        session: fresh_session(),
         waiting: 0,
         over: false,
     };
-    let mut turns: u64 = 18446744073709551615;
-    while (0 < turns) & !p.over {
-        p = step(stdin, stdout, p, guest, host, kept);
-        turns -= 1;
+    for _ in 0..u64::MAX {
+        if p.over {
+            break;
+        }
+        p.step(stdin, stdout, guest, host, kept);
     }
 }
 

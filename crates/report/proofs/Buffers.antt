@@ -1,71 +1,30 @@
--- What a call of C's tells, as a count (`told-count`, `told_moved`, `told_none`, `told-failed`); bytes moved to the front of a list (`shift-more`,
--- `shift-keeps`), and stored into a part of it (`sets-part`); what the program's steps do (`writes-much`, `line-printed`, `run-goes`).
--- A signed number above 0 is its own count, by the cases of its sign. Moving writes at i and reads at start + i, which no write so far has
--- reached (`get_d-sets-past`). At most 22,528 bytes of output wait and a line prints at most 239,616: there is room for both (`line-room`).
+-- Bytes moved to the front of a list (`shifted`, `shift-keeps`), and stored into a part of it (`sets-part`); what the program's steps do
+-- (`writes-much`, `line-printed`, `run-goes`).
+-- Moving writes at i and reads at start + i, which no write so far has reached (`get_d-sets-past`). At most 22,528 bytes of output wait and a line prints at most 239,616: there is room for both (`line-room`).
 -- Assumes nothing.
+use Rattle.std.specs.Prelude.{Some, None, is_some}
 use Prim.Native.Nat.{ℕ, zero, suc, ◌+◌, ◌-◌, ◌≤◌, ◌<◌, min}
 use native.Mathlib.Numerals.{add-one}
 use native.Mathlib.Omega.{arith}
-use mathlib.Core.Path.{◌≡◌, refl, sym, ap, ◌∙◌}
-use mathlib.Core.Bool.{Bool, true, false, cond, not, ◌&&◌, ◌||◌, and-true, or-false, false≢true}
-use mathlib.Core.Logic.{◌⊎◌, inl, inr}
+use mathlib.Core.Path.{◌≡◌, refl, sym, ap, ap₂, ◌∙◌}
+use mathlib.Core.Bool.{Bool, true, false, cond, not, ◌||◌, or-false}
 use mathlib.Core.List.{List, [], ◌∷◌, ◌++◌, append-nil}
-use lib.ListN.{length, get_or, set, take, drop, length-take, length-drop, drop_of_length-le}
-use lib.Seq.{sets, sets-eq, length-sets, length-take-le, take_at, take-take, take-suc, get_or-drop, get_or-set_other}
-use lib.Dec.{T, eqb, ltb}
+use lib.ListN.{length, get_or, set, take, drop, length-take, length-drop, drop_of_length-le, take-append-drop}
+use lib.Seq.{paste, take-paste, drop-paste, sets, sets-eq, length-sets, length-take-le, take_at, take-take, take-suc, get_or-drop, get_or-set_other}
+use lib.Dec.{eqb, ltb}
 use borrow.Author.Tests.{lt-ltb, le-ltb, ltb-false, eqb-true, eqb-false, eq-eqb, ne_eqb}
 use borrow.Rule.Slice.PartMut.{put_mid, take_put}
-use lib.IntN.{ℤ, pos, negsuc, nat_abs}
-use lib.Signed.{lt_z, non_neg}
-use mir.Syntax.{w64}
-use mir.Val.{Fits as Holds, SFits, to_z, of_z}
-use mir.ValLaws.{to_z-of_z}
 use borrow.Author.Rules.{part_to_end}
 use Rattle.octets.specs.Saturated.{saturated}
 use Rattle.octets.proofs.Integers.{sets-append}
-use Rattle.capture.specs.Lines.{line_of}
-use Rattle.capture.specs.Flaws.{flaw_of, is_flaw}
+use Rattle.capture.proofs.LineLaws.{totals-short}
+use Rattle.capture.specs.Lines.{line_of, totals_line}
+use Rattle.capture.specs.Flaws.{flaw_of}
 use Rattle.transcript.specs.declared.Lined.{Lined}
-use Rattle.transcript.specs.declared.NextLine.TheVariants.{LineEnd, Wait}
 use Rattle.transcript.specs.Input.{step_of, next_of, LineReports, start as started}
 use Rattle.transcript.proofs.Parts.{prints-short, next-within, wait-few}
 use Rattle.report.specs.declared.State.{State}
-use Rattle.report.specs.Program.{Fits, progress, begun, moved_of, failed_of, line_step, Writes, Prints, Memory, memory, beginning, Steps, Turns, begin, turn}
-
--- a number above 0 is the same without its sign
-positive : (z : ℤ) → SFits w64 z → lt_z (pos 0) z ≡ true → T (non_neg z) × Holds w64 (nat_abs z)
-positive (pos n) f t = (tt, record { fits = omega (arith, f.sfits) })
-positive (negsuc n) f t = absurd (false≢true t)
-
-pub told-count : (z : ℤ) → SFits w64 z → lt_z (pos 0) (to_z w64 (of_z w64 z)) ≡ true → T (non_neg (to_z w64 (of_z w64 z))) × Holds w64 (nat_abs (to_z w64 (of_z w64 z)))
-told-count z f t = rw (to_z-of_z w64 z f) (positive z f (rw (to_z-of_z w64 z f) at t))
-
--- how many bytes were moved, where it is above 0 and where it is not
-positive-moved : (z : ℤ) (most : ℕ) → lt_z (pos 0) z ≡ true → min (nat_abs z) most ≡ moved_of z most
-positive-moved (pos n) most t = refl
-positive-moved (negsuc n) most t = absurd (false≢true t)
-
-nothing-moved : (z : ℤ) (most : ℕ) → lt_z (pos 0) z ≡ false → 0 ≡ moved_of z most
-nothing-moved (pos n) most t = omega (arith, ltb-false 0 n t)
-nothing-moved (negsuc n) most t = refl
-
-pub told_moved : (z : ℤ) (most : ℕ) → SFits w64 z → lt_z (pos 0) (to_z w64 (of_z w64 z)) ≡ true → min (nat_abs (to_z w64 (of_z w64 z))) most ≡ moved_of z most
-told_moved z most f t = rw (to_z-of_z w64 z f) (positive-moved z most (rw (to_z-of_z w64 z f) at t))
-
-pub told_none : (z : ℤ) (most : ℕ) → SFits w64 z → lt_z (pos 0) (to_z w64 (of_z w64 z)) ≡ false → 0 ≡ moved_of z most
-told_none z most f t = nothing-moved z most (rw (to_z-of_z w64 z f) at t)
-
--- whether it failed, and that nothing was moved then
-failed-is : (z : ℤ) → lt_z z (pos 0) ≡ failed_of z
-failed-is (pos n) = le-ltb n 0 (omega arith)
-failed-is (negsuc n) = refl
-
-pub told-failed : (z : ℤ) → SFits w64 z → lt_z (to_z w64 (of_z w64 z)) (pos 0) ≡ failed_of z
-told-failed z f = rw (to_z-of_z w64 z f) (failed-is z)
-
-pub failed-none : (z : ℤ) (most : ℕ) {got : ℕ} {b : Bool} → got ≡ moved_of z most → b ≡ failed_of z → b ≡ true → eqb got 0 ≡ true
-failed-none (pos n) most e f t = absurd (false≢true (sym f ∙ t))
-failed-none (negsuc n) most e f t = rw e
+use Rattle.report.specs.Program.{Fits, progress, begun, line_step, Writes, Prints, memory, beginning, Turns, begin}
 
 -- nothing came where the end is where it was
 pub none_came : (n got : ℕ) → eqb got 0 ≡ eqb (n + got) n
@@ -81,27 +40,29 @@ get_d-sets-past [] l i j h = refl
 get_d-sets-past (x ∷ xs) l i j h =
     get_d-sets-past xs (set l i x) (suc i) j (omega arith) ∙ get_or-set_other l i j x 0 (λ e. let z : j ≡ i = e in omega arith)
 
--- one more byte of those from start on stands at the front
-pub shift-more : (l : List ℕ) (start i : ℕ) → start + i < length l
-    → set (sets l 0 (take i (drop start l))) i (get_or (sets l 0 (take i (drop start l))) (start + i) 0) ≡ sets l 0 (take (i + 1) (drop start l))
-shift-more l start i h =
-    let d : i < length (drop start l) = omega (arith, length-drop start l) in
-    let n : length (take i (drop start l)) ≡ i = length-take-le i (drop start l) (omega arith) in
-    let g : get_or (sets l 0 (take i (drop start l))) (start + i) 0 ≡ get_or (drop start l) i 0
-    = get_d-sets-past (take i (drop start l)) l 0 (start + i) (omega (arith, n)) ∙ sym (get_or-drop start l i 0) in
-    let e : 0 + length (take i (drop start l)) ≡ i = omega (arith, n) in
-    rw (g, add-one, take-suc (drop start l) i 0 d, sets-append l 0 (take i (drop start l)) (get_or (drop start l) i 0 ∷ []), e)
+-- what is copied to the front is stored there
+pub shifted : (l : List ℕ) (start n : ℕ) {r : List ℕ} → start + n ≤ length l → r ≡ paste l 0 (drop start l) (start + n - start) → r ≡ sets l 0 (take n (drop start l))
+shifted l start n h e =
+    let s = drop start l in
+    let k : start + n - start ≡ n = omega arith in
+    let ls : n ≤ length s = omega (arith, length-drop start l) in
+    let m : length (take n s) ≡ n = length-take-le n s ls in
+    e
+    ∙ ap (paste l 0 s) k
+    ∙ sym (take-append-drop (0 + n) (paste l 0 s n))
+    ∙ ap₂ (λ (x y : List ℕ). x ++ y) (take-paste l 0 s n (omega arith) ls) (drop-paste l 0 s n (omega arith) ls)
+    ∙ sym (sets-eq (take n s) l 0 (omega (arith, m)) ∙ ap (λ (i : ℕ). take n s ++ drop (0 + i) l) m)
 
 -- bytes that were moved to the front stay there, whatever is read behind them
-pub shift-keeps : (l ys : List ℕ) (start n got : ℕ) {s : List ℕ} → start + n ≤ length l → s ≡ sets l 0 (take n (drop start l))
-    → take n (take (n + got - 0) (drop 0 (put_mid n (length s - n) s ys))) ≡ take n (drop start l)
-shift-keeps l ys start n got {s} h e =
+pub shift-keeps : (l ys : List ℕ) (start n e : ℕ) {s : List ℕ} → start + n ≤ length l → n ≤ e → s ≡ sets l 0 (take n (drop start l))
+    → take n (take (e - 0) (drop 0 (put_mid n (length s - n) s ys))) ≡ take n (drop start l)
+shift-keeps l ys start n e {s} h k q =
     let m = take n (drop start l) in
     let lm : length m ≡ n = length-take-le n (drop start l) (omega (arith, length-drop start l)) in
-    let ls : length s ≡ length l = ap length e ∙ length-sets l 0 m in
-    take-take n (n + got - 0) (put_mid n (length s - n) s ys) (omega arith)
+    let ls : length s ≡ length l = ap length q ∙ length-sets l 0 m in
+    take-take n (e - 0) (put_mid n (length s - n) s ys) (omega arith)
     ∙ take_put n (length s - n) s ys (omega (arith, ls))
-    ∙ ap (take n) (e ∙ sets-eq m l 0 (omega (arith, lm)))
+    ∙ ap (take n) (q ∙ sets-eq m l 0 (omega (arith, lm)))
     ∙ take_at m (drop (0 + length m) l) n lm
 
 -- ---- stores into a part of a list
@@ -140,11 +101,11 @@ line-is l start k =
     ap (λ (n : ℕ). take n (drop start l)) e
 
 -- a line lies within the bytes that it begins
-pub line-within : (l : List ℕ) (start n k : ℕ) (last : Bool) → next_of (take n (drop start l)) last ≡ LineEnd k → k ≤ n
+pub line-within : (l : List ℕ) (start n k : ℕ) (last : Bool) → next_of (take n (drop start l)) last ≡ Some k → k ≤ n
 line-within l start n k last e = omega (arith, next-within (take n (drop start l)) last e, length-take n (drop start l))
 
 -- bytes that leave it open are few
-pub wait-within : (l : List ℕ) (start n : ℕ) (last : Bool) → start + n ≤ length l → next_of (take n (drop start l)) last ≡ Wait → n ≤ 4113
+pub wait-within : (l : List ℕ) (start n : ℕ) (last : Bool) → start + n ≤ length l → next_of (take n (drop start l)) last ≡ None → n ≤ 4113
 wait-within l start n last h e = omega (arith, wait-few (take n (drop start l)) last e, length-take-le n (drop start l) (omega (arith, length-drop start l)))
 
 left : (n : ℕ) → cond (ltb 22528 n) 0 n ≤ 22528
@@ -169,7 +130,7 @@ module _ (p : State) (f : Fits p) (k : ℕ) (guest host input out : List ℕ) {l
 
     -- what is stored into the part behind `size` is stored there in the output (`sets-part`); the rest is what was told, and `Writes`
     pub line-printed : {m n : ℕ} {b : Bool} {r : State} → length out ≡ 262144 → p.start + k ≤ p.end → part ≡ take (length out - p.size) (drop p.size out)
-        → m ≡ min (p.start + k + 1) p.end → n ≡ saturated p.lines 1 → b ≡ is_flaw l.flaw
+        → m ≡ min (p.start + k + 1) p.end → n ≡ saturated p.lines 1 → b ≡ is_some l.flaw
         → Writes (record { session = l.reported.session; totals = l.reported.totals; start = m; end = p.end; last = p.last; size = p.size + l.reported.size; over = b; lines = n; flaw = l.flaw; cut = p.cut; lost = p.lost }) r
         → Prints p k guest host input out r guest-after host-after (put_mid p.size (length out - p.size) out part-after)
     line-printed {m} {b} {r} lo lk ep em en eb w =
@@ -194,6 +155,10 @@ module _ (p : State) (f : Fits p) (k : ℕ) (guest host input out : List ℕ) {l
           over = w.over ∙ rw (eb, s.bad, line-size);
         }
 
+-- the totals have room behind the output that is not written yet
+pub totals-room : (p : State) (n : ℕ) → Fits p → n ≡ length (totals_line p.totals.passed p.totals.refused p.session.head.stopped) → p.size + n ≤ 22645
+totals-room p n f e = omega (arith, f.room, totals-short p.totals.passed p.totals.refused p.session.head.stopped)
+
 -- ---- a run
 
 pub run-begins : (p : State) (guest host input out : List ℕ) → p ≡ begun → guest ≡ started.guest → host ≡ started.host
@@ -202,14 +167,3 @@ run-begins p guest host input out e g h = rw (e, g, h) begin
 
 pub begun-fits : (p : State) → p ≡ begun → Fits p
 begun-fits p e = rw e (record { order = omega arith; within = omega arith; room = omega arith })
-
--- where so many turns are left
-pub run-goes : {m n o : Memory} (left : ℕ) → 0 < left → left ≤ 18446744073709551615 → Turns m n (18446744073709551615 - left) → n.state.over ≡ false → Steps n o
-    → Turns m o (18446744073709551615 - (left - 1))
-run-goes left h w t e s =
-    let q : 18446744073709551615 - (left - 1) ≡ suc (18446744073709551615 - left) = omega arith in
-    rw q (turn t e s)
-
-pub run_ends : (left : ℕ) (b : Bool) → (ltb 0 left && not b) ≡ false → (b ≡ true) ⊎ (18446744073709551615 - left ≡ 18446744073709551615)
-run_ends left true e = inl refl
-run_ends left false e = inr (omega (arith, ltb-false 0 left (sym (and-true (ltb 0 left)) ∙ e)))

@@ -2,13 +2,12 @@
 -- By induction over the turns (`turns-find`): what the lines so far have shown, and what the unread bytes with all that follows will show, is what
 -- the input shows. A line that is read in part is too long, and so is the whole of it (`long-flaw`).
 -- What the code hands to C's write is the front of its buffer by its text, `&errors[..n]`: that is no contract's to say. Assumes nothing.
-use Prim.Native.Nat.{ℕ, suc, ◌+◌, ◌-◌, ◌≤◌, ◌<◌}
+use Prim.Native.Nat.{ℕ, suc, ◌≤◌, ◌<◌}
 use Rattle.std.proofs.Common.{arith, sym, ◌∙◌, append_assoc, append-nil, length-append, length-drop, take_all}
-use Rattle.std.specs.Prelude.{◌≡◌, Bool, cond, ◌&&◌, ◌||◌, List, [], ◌∷◌, ◌++◌, take, drop}
+use Rattle.std.specs.Prelude.{◌≡◌, Bool, cond, ◌&&◌, ◌||◌, List, [], ◌∷◌, ◌++◌, take, drop, Option, Some, None, is_some, is_none}
 use Rattle.std.proofs.Math.Path.{refl, ap}
 use Rattle.std.proofs.Math.Bool.{true, false}
 use Rattle.std.proofs.lemmas.Bool.{false≢true}
-use Rattle.std.proofs.Math.Option.{Option, none, some}
 use Rattle.std.proofs.Math.ListN.{length, drop_of_length-le}
 use Rattle.std.proofs.lemmas.List.Edits.{sets}
 use Rattle.std.proofs.Math.Dec.{ltb}
@@ -16,11 +15,10 @@ use borrow.Author.Tests.{ltb-true, ltb-false, lt-ltb}
 use Rattle.octets.specs.Saturated.{saturated}
 use Rattle.header.specs.declared.Side.TheVariants.{Guest, Host}
 use Rattle.capture.specs.declared.Flaw.{Flaw}
-use Rattle.capture.specs.declared.Flaw.TheVariants.{Nothing, Start, Long}
+use Rattle.capture.specs.declared.Flaw.TheVariants.{Start, Long}
 use Rattle.capture.specs.Lines.{SentPiece, start_of, starts_with, line_of}
-use Rattle.capture.specs.Flaws.{flaw_of, is_flaw, error_lines}
-use Rattle.capture.proofs.LineLaws.{offers_nothing, flawed, no-flaw}
-use Rattle.transcript.specs.declared.NextLine.TheVariants.{LineEnd}
+use Rattle.capture.specs.Flaws.{flaw_of, error_lines}
+use Rattle.capture.proofs.LineLaws.{flawed}
 use Rattle.transcript.specs.Input.{Progress, step_of, lines_of, line_end, next_of}
 use Rattle.transcript.proofs.Parts.{next-is, wait-none, newline-there, newline-missing, last_line, long-bad}
 use Rattle.report.specs.declared.State.{State}
@@ -31,12 +29,12 @@ use Rattle.report.specs.Output.{read_in, failed_in, bad_in, read_none, read_by, 
 
 pub record Found : Type 0 where
   pub lines : ℕ
-  pub flaw : Flaw
+  pub flaw : Option Flaw
 
 unfoldable pub found_from : ℕ → List (List ℕ) → Found
-found_from n [] = record { lines = n; flaw = Nothing }
+found_from n [] = record { lines = n; flaw = None }
 found_from n (line ∷ lines) =
-    cond (is_flaw (flaw_of line)) (record { lines = saturated n 1; flaw = flaw_of line }) (found_from (saturated n 1) lines)
+    cond (is_some (flaw_of line)) (record { lines = saturated n 1; flaw = flaw_of line }) (found_from (saturated n 1) lines)
 
 abbrev pub found_in : List ℕ → Found
 found_in input = found_from 0 (lines_of input)
@@ -53,7 +51,7 @@ starts-same [] l m h = refl
 starts-same (x ∷ p) [] m h = absurd (omega arith)
 starts-same (x ∷ p) (b ∷ l) m h = rw (starts-same p l m (omega arith))
 
-long-is : (l : List ℕ) → 4113 < length l → flaw_of l ≡ cond (starts_with (start_of Guest) l) Long (cond (starts_with (start_of Host) l) Long Start)
+long-is : (l : List ℕ) → 4113 < length l → flaw_of l ≡ cond (starts_with (start_of Guest) l) (Some Long) (cond (starts_with (start_of Host) l) (Some Long) (Some Start))
 unfolding flaw_of
 long-is l h =
     rw (lt-ltb 4096 (length (drop 17 l)) (omega (arith, length-drop 17 l)), lt-ltb 4096 (length (drop 16 l)) (omega (arith, length-drop 16 l)))
@@ -63,14 +61,14 @@ long-flaw l m h =
     long-is (l ++ m) (omega (arith, length-append l m))
     ∙ rw (starts-same (start_of Guest) l m (omega arith), starts-same (start_of Host) l m (omega arith)) (sym (long-is l h))
 
-long-flawed : (l : List ℕ) → 4113 < length l → is_flaw (flaw_of l) ≡ true
-long-flawed l h = flawed l ∙ ap offers_nothing (long-bad l h)
+long-flawed : (l : List ℕ) → 4113 < length l → is_some (flaw_of l) ≡ true
+long-flawed l h = flawed l ∙ ap is_none (long-bad l h)
 
 -- ---- the input in parts
 
 abbrev pub after_line : ℕ → List ℕ → List (List ℕ) → Found
 after_line n line lines =
-    cond (is_flaw (flaw_of line)) (record { lines = saturated n 1; flaw = flaw_of line }) (found_from (saturated n 1) lines)
+    cond (is_some (flaw_of line)) (record { lines = saturated n 1; flaw = flaw_of line }) (found_from (saturated n 1) lines)
 
 module _ (n : ℕ) (more : List ℕ) where
   found-line : (line : List ℕ) (lines : List (List ℕ)) → found_from n (line ∷ lines) ≡ after_line n line lines
@@ -78,7 +76,7 @@ module _ (n : ℕ) (more : List ℕ) where
   found-line line lines = refl
 
   -- after a bad line the rest is not looked at
-  same-flaw : (x y : List ℕ) (s t : List (List ℕ)) → flaw_of x ≡ flaw_of y → is_flaw (flaw_of y) ≡ true → after_line n x s ≡ after_line n y t
+  same-flaw : (x y : List ℕ) (s t : List (List ℕ)) → flaw_of x ≡ flaw_of y → is_some (flaw_of y) ≡ true → after_line n x s ≡ after_line n y t
   same-flaw x y s t e f = rw (e, f)
 
   too_long : (bytes : List ℕ) → length bytes ≤ line_end bytes → 4113 < length bytes → (s : List (List ℕ))
@@ -95,7 +93,7 @@ module _ (n : ℕ) (more : List ℕ) where
       ap (λ (x : List ℕ). found_from n (lines_of x)) (append-nil (b ∷ l)) ∙ ap (found_from n) (last_line b l h) ∙ found-line (b ∷ l) []
 
   -- where unread bytes begin with a line, what they and more behind them show is what that line shows, and then what is behind its newline
-  first_found : (bytes : List ℕ) (last : Bool) {k : ℕ} → next_of bytes last ≡ LineEnd k → (last ≡ true → more ≡ [])
+  first_found : (bytes : List ℕ) (last : Bool) {k : ℕ} → next_of bytes last ≡ Some k → (last ≡ true → more ≡ [])
       → found_from n (lines_of (bytes ++ more)) ≡ after_line n (take k bytes) (lines_of (drop (suc k) bytes ++ more))
   unfolding lines_of
   first_found bytes last {k} e none-behind =
@@ -121,12 +119,16 @@ found_by p = record { lines = p.lines; flaw = p.flaw }
 abbrev pub to_find : Bool → Memory → List ℕ → Found
 to_find bad m more = cond bad (found_by m.state) (found_from m.state.lines (lines_of (unread m.state m.input ++ more)))
 
-bad-flaw : (p : Progress) (line : List ℕ) → (step_of p (line_of line)).bad ≡ is_flaw (flaw_of line)
+no-flaw : (f : Option Flaw) → is_some f ≡ false → f ≡ None
+no-flaw None e = refl
+no-flaw (Some f) e = absurd (false≢true (sym e))
+
+bad-flaw : (p : Progress) (line : List ℕ) → (step_of p (line_of line)).bad ≡ is_some (flaw_of line)
 bad-flaw p line = go (line_of line) ∙ sym (flawed line)
   where
-    go : (o : Option SentPiece) → (step_of p o).bad ≡ offers_nothing o
-    go none = refl
-    go (some o) = refl
+    go : (o : Option SentPiece) → (step_of p o).bad ≡ is_none o
+    go None = refl
+    go (Some o) = refl
 
 module _ {m n : Memory} where
   step-finds : (s : Steps m n) (more : List ℕ) → (n.state.last ≡ true → more ≡ [])
@@ -143,7 +145,7 @@ module _ {m n : Memory} where
       rw (read-on m n q more, lines)
 
   -- a turn whose line is not bad leaves no flaw
-  step-sound : (s : Steps m n) → m.state.flaw ≡ Nothing → bad_in s ≡ false → n.state.flaw ≡ Nothing
+  step-sound : (s : Steps m n) → m.state.flaw ≡ None → bad_in s ≡ false → n.state.flaw ≡ None
   step-sound (step_line {k} e q i) f b =
       let p = m.state in
       let line = take k (drop p.start m.input) in
@@ -151,7 +153,7 @@ module _ {m n : Memory} where
   step-sound (step_end e l s g h i o) f b = ap (λ (p : State). p.flaw) s ∙ f
   step-sound (step-read e l q g h o) f b = ap (λ (p : State). p.flaw) q.state ∙ f
 
-turns-sound : {m n : Memory} {k : ℕ} (t : Turns m n k) → m.state.flaw ≡ Nothing → bad_by t ≡ false → n.state.flaw ≡ Nothing
+turns-sound : {m n : Memory} {k : ℕ} (t : Turns m n k) → m.state.flaw ≡ None → bad_by t ≡ false → n.state.flaw ≡ None
 turns-sound begin f b = f
 turns-sound (turn t e s) f b = step-sound s (turns-sound t f (not-bad t e)) b
 
@@ -165,12 +167,12 @@ turns-find {m} (turn {n} {o} t e s) more h =
     ∙ ap (λ (b : Bool). to_find b n (read_in s ++ more)) (not-bad t e)
     ∙ step-finds s more h
 
-found_none : (n : ℕ) → found_from n (lines_of []) ≡ record { lines = n; flaw = Nothing }
+found_none : (n : ℕ) → found_from n (lines_of []) ≡ record { lines = n; flaw = None }
 unfolding found_from lines_of
 found_none n = refl
 
 -- where it is over and no write failed, nothing is left to be found
-step-found : {m n : Memory} (s : Steps m n) → m.state.over ≡ false → n.state.over ≡ true → failed_in s ≡ false → (bad_in s ≡ false → n.state.flaw ≡ Nothing)
+step-found : {m n : Memory} (s : Steps m n) → m.state.over ≡ false → n.state.over ≡ true → failed_in s ≡ false → (bad_in s ≡ false → n.state.flaw ≡ None)
     → (more : List ℕ) → (n.state.last ≡ true → more ≡ [])
     → to_find (bad_in s) n more ≡ found_by n.state
 step-found {m} {n} (step_line {k} e q i) b over w f more none-behind =
@@ -181,10 +183,10 @@ step-found {m} {n} (step_end e l s g h i o) b over w f more none-behind =
     let none_left : more ≡ [] = none-behind (ap (λ (p : State). p.last) s ∙ l) in
     let u : unread n.state n.input ++ more ≡ []
     = ap (λ (x : List ℕ). unread n.state n.input ++ x) none_left ∙ append-nil (unread n.state n.input) ∙ rw (s, i) (wait-none (unread m.state m.input) true refl (rw l at e)) in
-    ap (λ (x : List ℕ). found_from n.state.lines (lines_of x)) u ∙ found_none n.state.lines ∙ ap (λ (x : Flaw). record { lines = n.state.lines; flaw = x }) (sym (f refl))
+    ap (λ (x : List ℕ). found_from n.state.lines (lines_of x)) u ∙ found_none n.state.lines ∙ ap (λ (x : Option Flaw). record { lines = n.state.lines; flaw = x }) (sym (f refl))
 step-found (step-read e l q g h o) b over w f more none-behind = absurd (false≢true (sym b ∙ sym (ap (λ (p : State). p.over) q.state) ∙ over))
 
-ends_found : {m n : Memory} {k : ℕ} (t : Turns m n k) → m.state.over ≡ false → m.state.flaw ≡ Nothing → n.state.over ≡ true → failed_by t ≡ false
+ends_found : {m n : Memory} {k : ℕ} (t : Turns m n k) → m.state.over ≡ false → m.state.flaw ≡ None → n.state.over ≡ true → failed_by t ≡ false
     → (more : List ℕ) → (n.state.last ≡ true → more ≡ [])
     → to_find (bad_by t) n more ≡ found_by n.state
 ends_found begin b f over w more none-behind = absurd (false≢true (sym b ∙ over))

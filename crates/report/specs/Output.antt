@@ -4,13 +4,12 @@
 -- out, and a read leaves all three as they are. At the end the totals are left.
 -- What the code hands to C's write is `written_in` by its text, `&out[..size]`:
 -- that is no contract's to say. Assumes nothing.
-use Rattle.std.specs.Prelude.{ℕ, suc, ◌+◌, ◌-◌, ◌≤◌, ◌<◌, min, ◌≡◌, refl, Bool, true, false, cond, ◌&&◌, ◌||◌, List, [], ◌++◌, length, take, drop, ltb}
+use Rattle.std.specs.Prelude.{ℕ, suc, ◌+◌, ◌-◌, ◌≤◌, ◌<◌, min, ◌≡◌, refl, Bool, true, false, cond, ◌&&◌, ◌||◌, List, [], ◌++◌, length, take, drop, ltb, Some}
 use Rattle.std.proofs.Common.{arith, sym, ap, ◌∙◌, append_assoc, append-nil, length-take, take-append-drop, take-take, drop-drop, ltb-true, ltb-false}
 use Rattle.std.proofs.lemmas.Bool.{false≢true}
 use Rattle.std.proofs.Math.Seq.{length-sets}
 use Rattle.octets.proofs.Integers.{drop-take, take-sets}
 use Rattle.capture.proofs.LineLaws.{totals-short}
-use Rattle.transcript.specs.declared.NextLine.TheVariants.{LineEnd}
 use Rattle.transcript.specs.Input.{Progress, lines_of, totals_of, output_from, output_of, next_of, start as started}
 use Rattle.transcript.proofs.Parts.{prints-short, next-within, first-line, last-wait}
 use Rattle.report.specs.declared.State.{State}
@@ -108,7 +107,7 @@ read-on m n q more =
     ∙ ap (λ (x : List ℕ). x ++ more) (take-append-drop w un)
 
 -- a line is where the unread bytes start, and behind it are those that are unread then
-pub line_first : (m n : Memory) {k : ℕ} → next_of (unread m.state m.input) m.state.last ≡ LineEnd k
+pub line_first : (m n : Memory) {k : ℕ} → next_of (unread m.state m.input) m.state.last ≡ Some k
     → Prints m.state k m.guest m.host m.input m.out n.state n.guest n.host n.out → n.input ≡ m.input
     → (take k (unread m.state m.input) ≡ take k (drop m.state.start m.input)) × (drop (suc k) (unread m.state m.input) ≡ unread n.state n.input)
 line_first m n {k} e q i =
@@ -118,7 +117,7 @@ line_first m n {k} e q i =
 
 module _ {m n : Memory} (f : Fits m.state) (lo : length m.out ≡ 262144) (more : List ℕ) (none-behind : n.state.last ≡ true → more ≡ []) where
   -- a line: what it prints is the first of what is still to come, and stands behind the output that was not written yet
-  line-keeps : {k : ℕ} → next_of (unread m.state m.input) m.state.last ≡ LineEnd k
+  line-keeps : {k : ℕ} → next_of (unread m.state m.input) m.state.last ≡ Some k
       → (q : Prints m.state k m.guest m.host m.input m.out n.state n.guest n.host n.out) → n.input ≡ m.input
       → pending m ++ output_from (progress_of m) (lines_of (unread m.state m.input ++ more))
       ≡ take (size_with m.state k m.guest m.host m.input) n.out ++ to_come (line_step m.state k m.guest m.host m.input).bad n more

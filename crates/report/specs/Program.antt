@@ -2,14 +2,12 @@
 -- writes, or whether it fails: what a read brings stands in the input buffer after it, `cut` names whether it failed, and `failed` whether a
 -- write did.
 -- Assumes nothing: these are definitions.
-use Rattle.std.specs.Prelude.{ℕ, suc, ◌+◌, ◌-◌, ◌≤◌, min, ◌≡◌, Bool, true, false, cond, ◌&&◌, ◌||◌, List, ◌⊎◌, length, take, drop, eqb, ltb, ℤ, pos, negsuc}
+use Rattle.std.specs.Prelude.{ℕ, suc, ◌+◌, ◌-◌, ◌≤◌, min, ◌≡◌, Bool, true, false, cond, ◌&&◌, ◌||◌, List, ◌⊎◌, length, take, drop, eqb, ltb, Some, None}
 use Rattle.std.proofs.lemmas.List.Edits.{sets}
 use Rattle.octets.specs.Saturated.{saturated}
 use Rattle.session.specs.Session.{fresh_session}
-use Rattle.capture.specs.declared.Flaw.TheVariants.{Nothing}
 use Rattle.capture.specs.Lines.{line_of}
 use Rattle.capture.specs.Flaws.{flaw_of, error_lines}
-use Rattle.transcript.specs.declared.NextLine.TheVariants.{LineEnd, Wait}
 use Rattle.transcript.specs.Input.{Progress, LineStep, step_of, totals_of, next_of, start}
 use Rattle.report.specs.declared.State.{State}
 
@@ -29,17 +27,7 @@ progress p guest host = record { session = p.session; totals = p.totals; guest =
 
 abbrev pub begun : State
 begun =
-    record { session = fresh_session; totals = record { passed = 0; refused = 0 }; start = 0; end = 0; last = false; size = 0; over = false; lines = 0; flaw = Nothing; cut = false; lost = false }
-
--- ---- how many bytes a call of C's moved, of so many, by what it told, none where it failed; and whether it failed
-
-abbrev pub moved_of : ℤ → ℕ → ℕ
-moved_of (pos n) most = min n most
-moved_of (negsuc n) most = 0
-
-abbrev pub failed_of : ℤ → Bool
-failed_of (pos n) = false
-failed_of (negsuc n) = true
+    record { session = fresh_session; totals = record { passed = 0; refused = 0 }; start = 0; end = 0; last = false; size = 0; over = false; lines = 0; flaw = None; cut = false; lost = false }
 
 -- ---- reading: the unread bytes are kept, with what comes behind them; the input has ended where nothing comes, as where the read failed
 
@@ -100,13 +88,13 @@ memory p guest host input out = record { state = p; guest = guest; host = host; 
 
 -- The unread bytes begin with a line, which is printed; or nothing is left of the input, and it is over; or more is read.
 pub data Steps (m n : Memory) : Type 0 where
-  step_line : {k : ℕ} → next_of (unread m.state m.input) m.state.last ≡ LineEnd k
+  step_line : {k : ℕ} → next_of (unread m.state m.input) m.state.last ≡ Some k
       → Prints m.state k m.guest m.host m.input m.out n.state n.guest n.host n.out → n.input ≡ m.input → Steps m n
-  step_end : next_of (unread m.state m.input) m.state.last ≡ Wait → m.state.last ≡ true
+  step_end : next_of (unread m.state m.input) m.state.last ≡ None → m.state.last ≡ true
       → n.state
       ≡ record { session = m.state.session; totals = m.state.totals; start = m.state.start; end = m.state.end; last = m.state.last; size = m.state.size; over = true; lines = m.state.lines; flaw = m.state.flaw; cut = m.state.cut; lost = m.state.lost }
       → n.guest ≡ m.guest → n.host ≡ m.host → n.input ≡ m.input → n.out ≡ m.out → Steps m n
-  step-read : next_of (unread m.state m.input) m.state.last ≡ Wait → m.state.last ≡ false
+  step-read : next_of (unread m.state m.input) m.state.last ≡ None → m.state.last ≡ false
       → ReadsMore m.state m.input n.state n.input → n.guest ≡ m.guest → n.host ≡ m.host → n.out ≡ m.out → Steps m n
 
 -- ---- a run: turns from the beginning, each where it is not over yet, until it is over or the turns are used up

@@ -2,23 +2,23 @@
 // the totals. It holds a part of the input and a part of the output, in buffers that do not grow. Standard error gets what went wrong.
 #![tactic(auto)]
 
-ghost use Rattle.std.specs.Prelude.{◌+◌, ◌≤◌, ◌≡◌, true, length, take, drop};
+ghost use Rattle.std.specs.Prelude.{◌+◌, ◌≤◌, ◌≡◌, false, is_err, length, take, drop};
 ghost use Rattle.std.proofs.lemmas.List.Edits.{sets};
 ghost use Rattle.capture.specs.Lines.{totals_line};
 ghost use Rattle.capture.specs.Flaws.{error_lines};
 ghost use Rattle.transcript.specs.Input.{start as started};
-ghost use Rattle.report.specs.Program.{Fits, begun, moved_of, failed_of, Prints, Writes, ReadsMore, memory, beginning, Steps, Runs, Reports};
+ghost use Rattle.report.specs.Program.{Fits, begun, Prints, Writes, ReadsMore, memory, beginning, Steps, Runs, Reports};
 
-use capture::{Flaw, form_errors, form_totals, is_flaw};
+use capture::{Flaw, form_errors, form_totals};
 use header::HOLD_SIZE;
-use octets::{minimum, saturating_add};
 use session::{Session, fresh_session};
 use std::io;
-use std::io::{Read, Stderr, Stdin, Stdout, Write};
-use transcript::{NextLine, Totals, next_line, report_line};
+use std::io::{ErrorKind, Read, Stderr, Stdin, Stdout, Write};
+use transcript::{Totals, next_line, report_line};
 
 // The session and the totals; the unread bytes, from start to end of the input buffer, and whether no more come; the bytes of output that
-// are not written yet; whether the input is over; the count of lines so far, and the flaw of the last; and whether a read failed, and a write.
+// are not written yet; whether the input is over; the count of lines so far, and the flaw of the last, if it has one; and whether a read failed,
+// and a write.
 #[derive(Clone, Copy)]
 struct State {
     session: Session,
@@ -29,7 +29,7 @@ struct State {
     size: usize,
     over: bool,
     lines: usize,
-    flaw: Flaw,
+    flaw: Option<Flaw>,
     cut: bool,
     lost: bool,
 }
@@ -37,50 +37,22 @@ struct State {
 fn begin() -> State
     ensures { result ≡ begun }
 {
-    let session = fresh_session();
-    let totals = Totals {
-        passed: 0,
-        refused: 0,
-    };
     State {
-        session,
-        totals,
+        session: fresh_session(),
+        totals: Totals {
+            passed: 0,
+            refused: 0,
+        },
         start: 0,
         end: 0,
         last: false,
         size: 0,
         over: false,
         lines: 0,
-        flaw: Flaw::Nothing,
+        flaw: None,
         cut: false,
         lost: false,
     }
-}
-
-// What a read or a write tells: how many bytes it moved, or -1 where it failed.
-fn told_by(outcome: io::Result<usize>) -> isize {
-    match outcome {
-        Ok(n) => minimum(n, 9223372036854775807) as isize,
-        Err(_) => -1,
-    }
-}
-
-// How many bytes a call of C's moved, of so many; none where it failed.
-fn moved(got: isize, most: usize) -> usize
-    ensures { (result ≡ moved_of got most) × (result ≤ most) }
-{
-    if got > 0 {
-        minimum(got as usize, most)
-    } else {
-        0
-    }
-}
-
-// Whether a call of C's failed.
-fn failed(told: isize) -> bool
-    ensures { result ≡ failed_of told }
-{
-    told < 0
 }
 
 // Moves n bytes from start on to the front.
@@ -88,141 +60,144 @@ fn shift(s: &mut [u8], start: usize, n: usize)
     requires { start + n ≤ length s.old }
     ensures { s.new ≡ sets s.old 0 (take n (drop start s.old)) }
 {
-    let mut i: usize = 0;
-    while i < n {
-        s[i] = s[start + i];
-        i += 1;
-    }
+    s.copy_within(start..start + n, 0);
 }
 
-// Reads more behind the unread bytes, for which there is room. Where nothing comes, the input has ended.
-fn read_more(stdin: Stdin, p: State, input: &mut [u8]) -> State
-    requires { Fits p × (length input.old ≡ 65536) × (p.end ≤ p.start + 4113) }
-    ensures { ReadsMore p input.old result input.new }
-{
-    let start = p.start;
-    let n = p.end - start;
-    shift(input, start, n);
-    let room = input.len() - n;
-    let mut source = stdin;
-    let told = told_by(source.read(&mut input[n..]));
-    let got = moved(told, room);
-    let mut next = p;
-    next.start = 0;
-    next.end = n + got;
-    next.last = got == 0;
-    next.cut = failed(told);
-    next
-}
-
-// Writes all of s, or tells that a write failed. Which bytes a write takes, and whether it fails, is C's alone; for no bytes there is none.
-fn write_all<W: Write + Drop>(to: W, s: &[u8]) -> bool
-    ensures { length s.now ≡ 0 → result ≡ true }
+// Writes all of s, or fails. Which bytes a write takes, and whether it fails, is C's alone; for no bytes there is none. The library's
+// `write_all` would try again after an interrupt, where the report tells of a failed write.
+fn write_all<W: Write + Drop>(to: W, s: &[u8]) -> io::Result<()>
+    ensures { length s.now ≡ 0 → is_err result ≡ false }
 {
     let mut sink = to;
-    let mut done: usize = 0;
-    while done < s.len() {
-        let n = moved(told_by(sink.write(&s[done..])), s.len() - done);
+    let mut rest = s;
+    // a turn writes as many bytes as C takes
+    while 0 < rest.len() {
+        let n = sink.write(rest)?;
         if n == 0 {
-            return false;
+            return Err(ErrorKind::WriteZero.into());
         }
-        done = done + n;
+        rest = &rest[n..];
     }
-    true
+    Ok(())
 }
 
-// Writes the output, where it leaves no room for that of another line. A write that fails ends the input.
-fn write_much(stdout: Stdout, p: State, out: &[u8]) -> State
-    requires { p.size ≤ length out.now }
-    ensures { Writes p result }
-{
-    let size = p.size;
-    let mut next = p;
-    if 22528 < size {
-        let failed = !write_all(stdout, &out[..size]);
-        next.size = 0;
-        next.over = p.over | failed;
-        next.lost = p.lost | failed;
-    }
-    next
-}
-
-// Reports the line of k bytes with which the unread bytes begin.
-fn print_line(
-    stdout: Stdout,
-    p: State,
-    k: usize,
-    guest: &mut [u8],
-    host: &mut [u8],
-    input: &[u8],
-    out: &mut [u8],
-) -> State
-    requires { Fits p × (length input.now ≡ 65536) × (length out.old ≡ 262144) × (p.start + k ≤ p.end) }
-    ensures { Prints p k guest.old host.old input.now out.old result guest.new host.new out.new }
-{
-    let session = p.session;
-    let totals = p.totals;
-    let start = p.start;
-    let end = start + k;
-    let size = p.size;
-    let l = report_line(
-        session,
-        totals,
-        guest,
-        host,
-        &input[start..end],
-        &mut out[size..],
-    );
-    let r = l.reported;
-    let session = r.session;
-    let totals = r.totals;
-    let flaw = l.flaw;
-    let next = State {
-        session,
-        totals,
-        start: minimum(end + 1, p.end),
-        end: p.end,
-        last: p.last,
-        size: size + r.size,
-        over: is_flaw(flaw),
-        lines: saturating_add(p.lines, 1),
-        flaw,
-        cut: p.cut,
-        lost: p.lost,
-    };
-    write_much(stdout, next, out)
-}
-
-// A line is reported, or more is read, or the input is over.
-fn step(
-    stdin: Stdin,
-    stdout: Stdout,
-    p: State,
-    guest: &mut [u8],
-    host: &mut [u8],
-    input: &mut [u8],
-    out: &mut [u8],
-) -> State
-    requires { Fits p × (length input.old ≡ 65536) × (length out.old ≡ 262144) }
-    ensures { Steps (memory p guest.old host.old input.old out.old) (memory result guest.new host.new input.new out.new) }
-{
-    let start = p.start;
-    let end = p.end;
-    let n = next_line(&input[start..end], p.last);
-    match n {
-        NextLine::LineEnd(k) => print_line(stdout, p, k, guest, host, input, out),
-        NextLine::Wait => {
-            if p.last {
-                let mut next = p;
-                next.over = true;
-                return next;
+impl State {
+    // Reads more behind the unread bytes, for which there is room. Where nothing comes, the input has ended.
+    fn read_more(&mut self, stdin: Stdin, input: &mut [u8])
+        requires { Fits self.old × (length input.old ≡ 65536) × (self.old.end ≤ self.old.start + 4113) }
+        ensures { ReadsMore self.old input.old self.new input.new }
+    {
+        let n = self.end - self.start;
+        shift(input, self.start, n);
+        self.start = 0;
+        let mut source = stdin;
+        match source.read(&mut input[n..]) {
+            Ok(got) => {
+                self.end = n + got;
+                self.last = got == 0;
+                self.cut = false;
             }
-            read_more(stdin, p, input)
+            Err(_) => {
+                self.end = n;
+                self.last = true;
+                self.cut = true;
+            }
         }
+    }
+
+    // Writes the output, where it leaves no room for that of another line. A write that fails ends the input.
+    fn write_much(&mut self, stdout: Stdout, out: &[u8])
+        requires { self.old.size ≤ length out.now }
+        ensures { Writes self.old self.new }
+    {
+        if 22528 < self.size {
+            let failed = write_all(stdout, &out[..self.size]).is_err();
+            self.size = 0;
+            self.over |= failed;
+            self.lost |= failed;
+        }
+    }
+
+    // Reports the line of k bytes with which the unread bytes begin.
+    fn print_line(
+        &mut self,
+        stdout: Stdout,
+        k: usize,
+        guest: &mut [u8],
+        host: &mut [u8],
+        input: &[u8],
+        out: &mut [u8],
+    )
+        requires { Fits self.old × (length input.now ≡ 65536) × (length out.old ≡ 262144) × (self.old.start + k ≤ self.old.end) }
+        ensures { Prints self.old k guest.old host.old input.now out.old self.new guest.new host.new out.new }
+    {
+        let end = self.start + k;
+        let l = report_line(
+            self.session,
+            self.totals,
+            guest,
+            host,
+            &input[self.start..end],
+            &mut out[self.size..],
+        );
+        let r = l.reported;
+        self.session = r.session;
+        self.totals = r.totals;
+        self.start = (end + 1).min(self.end);
+        self.size += r.size;
+        self.over = l.flaw.is_some();
+        self.lines = self.lines.saturating_add(1);
+        self.flaw = l.flaw;
+        self.write_much(stdout, out);
+    }
+
+    // A line is reported, or more is read, or the input is over.
+    fn step(
+        &mut self,
+        stdin: Stdin,
+        stdout: Stdout,
+        guest: &mut [u8],
+        host: &mut [u8],
+        input: &mut [u8],
+        out: &mut [u8],
+    )
+        requires { Fits self.old × (length input.old ≡ 65536) × (length out.old ≡ 262144) }
+        ensures { Steps (memory self.old guest.old host.old input.old out.old) (memory self.new guest.new host.new input.new out.new) }
+    {
+        match next_line(&input[self.start..self.end], self.last) {
+            Some(k) => self.print_line(stdout, k, guest, host, input, out),
+            None if self.last => self.over = true,
+            None => self.read_more(stdin, input),
+        }
+    }
+
+    // Prints the totals behind the output that is not written yet.
+    fn print_totals(&self, stdout: Stdout, out: &mut [u8]) -> io::Result<()>
+        requires { Fits self.now × (length out.old ≡ 262144) }
+        ensures { out.new ≡ sets out.old self.now.size (totals_line self.now.totals.passed self.now.totals.refused self.now.session.head.stopped) }
+    {
+        let stopped = self.session.head.stopped;
+        let n = form_totals(
+            out,
+            self.size,
+            self.totals.passed,
+            self.totals.refused,
+            stopped,
+        );
+        write_all(stdout, &out[..self.size + n])
+    }
+
+    // Says on standard error what went wrong, if anything did.
+    fn tell_errors(&self, stderr: Stderr, lost: bool, errors: &mut [u8])
+        requires { length errors.old ≡ 256 }
+        ensures { errors.new ≡ sets errors.old 0 (error_lines self.now.lines self.now.flaw self.now.cut lost) }
+    {
+        let n = form_errors(errors, self.lines, self.flaw, self.cut, lost);
+        let _ = write_all(stderr, &errors[..n]);
     }
 }
 
-// A proved loop has to end, and nothing says that the input does. So the loop counts its turns down, from a number that no run uses up.
+// A proved loop has to end, and nothing says that the input does. So the turns have a limit, a number that no run uses up.
 fn run(
     stdin: Stdin,
     stdout: Stdout,
@@ -235,35 +210,13 @@ fn run(
     ensures { Runs (beginning input.old out.old) (memory result guest.new host.new input.new out.new) }
 {
     let mut p = begin();
-    let mut turns: u64 = 18446744073709551615;
-    while (0 < turns) & !p.over {
-        p = step(stdin, stdout, p, guest, host, input, out);
-        turns -= 1;
+    for _turn in 0..u64::MAX {
+        if p.over {
+            break;
+        }
+        p.step(stdin, stdout, guest, host, input, out);
     }
     p
-}
-
-// Prints the totals behind the output that is not written yet, or tells that a write failed.
-fn print_totals(stdout: Stdout, p: State, out: &mut [u8]) -> bool
-    requires { Fits p × (length out.old ≡ 262144) }
-    ensures { out.new ≡ sets out.old p.size (totals_line p.totals.passed p.totals.refused p.session.head.stopped) }
-{
-    let totals = p.totals;
-    let session = p.session;
-    let head = session.head;
-    let size = p.size;
-    let n = form_totals(out, size, totals.passed, totals.refused, head.stopped);
-    write_all(stdout, &out[..size + n])
-}
-
-// Says on standard error what went wrong, if anything did.
-fn tell_errors(stderr: Stderr, p: State, lost: bool, errors: &mut [u8])
-    requires { length errors.old ≡ 256 }
-    ensures { errors.new ≡ sets errors.old 0 (error_lines p.lines p.flaw p.cut lost) }
-{
-    let flaw = p.flaw;
-    let n = form_errors(errors, p.lines, flaw, p.cut, lost);
-    write_all(stderr, &errors[..n]);
 }
 
 // Reports the whole input.
@@ -281,8 +234,8 @@ fn report_input(
     ensures { Reports input.old out.old errors.old guest.new host.new input.new out.new errors.new }
 {
     let p = run(stdin, stdout, guest, host, input, out);
-    let written = print_totals(stdout, p, out);
-    tell_errors(stderr, p, p.lost | !written, errors);
+    let lost = p.print_totals(stdout, out).is_err();
+    p.tell_errors(stderr, p.lost | lost, errors);
 }
 
 fn main(rt: HostRuntime) {

@@ -3,12 +3,12 @@
 -- too (`cleared-fresh`).
 -- What the columns hold at an index after a change, and what is live then, is by `Places.antt`; `used` ends at a live place, so with none it is 0.
 -- Assumes nothing.
+use Rattle.std.specs.Prelude.{Some}
 use Prim.Native.Nat.{ℕ, zero, suc, ◌≤◌, ◌<◌}
 use mathlib.Core.Path.{◌≡◌, refl, sym, ap, ◌∙◌}
 use mathlib.Core.Bool.{Bool, true, false, cond, ◌||◌, true≢false}
 use mathlib.Core.Logic.{◌⊎◌, inl, inr}
 use mathlib.Core.List.{List}
-use mathlib.Core.Option.{some}
 use native.Mathlib.Omega.{arith}
 use lib.ListN.{length, get_or, replicate, length-replicate, get_or-replicate}
 use lib.Seq.{ext_get_or}
@@ -68,7 +68,7 @@ fresh-clean =
     }
 
 -- a request takes the lowest free place
-module _ (t : Requests) (i : ℕ) (r : Request) (f : lowest t Free ≡ some i) (c : Clean t) where
+module _ (t : Requests) (i : ℕ) (r : Request) (f : lowest t Free ≡ Some i) (c : Clean t) where
   low : i < places
   low = (lowest-found t Free i f).0
 
@@ -173,14 +173,14 @@ free-fresh t c all =
     let kinds = column-fresh 0 t.kinds c.kinds (λ i h z. ((zeroed i h).request z).kind) in
     let ids = column-fresh 0 t.ids c.ids (λ i h z. ((zeroed i h).request z).id) in
     let slots = column-fresh free_slot t.slots c.slots (λ i h z. record { length = ((zeroed i h).request z).length; target = ((zeroed i h).request z).target }) in
-    λ z. record { used = none t.used refl z; live = live z; kinds = kinds z; ids = ids z; slots = slots z }
+    λ z. record { used = None t.used refl z; live = live z; kinds = kinds z; ids = ids z; slots = slots z }
   where
     zeroed : (i : ℕ) → i < places → Zeroed t i
     zeroed i h = c.free i h (sym (place-live t i) ∙ ap (λ (p : Place). p.live) (all i))
 
-    none : (n : ℕ) → t.used ≡ n → t.used ≡ 0
-    none zero e = e
-    none (suc n) e = absurd (true≢false (sym (c.last n e) ∙ (zeroed n (omega (arith, e, c.used))).flag))
+    None : (n : ℕ) → t.used ≡ n → t.used ≡ 0
+    None zero e = e
+    None (suc n) e = absurd (true≢false (sym (c.last n e) ∙ (zeroed n (omega (arith, e, c.used))).flag))
 
 -- "frees every place"
 pub cleared-fresh : (t : Requests) → Clean t → cleared t ≡ fresh_requests

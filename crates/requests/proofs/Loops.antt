@@ -1,36 +1,39 @@
 -- What one turn of each loop does, and what the stores of one call come to.
--- A search over lent columns: what the test of one place says of `meets` (`id-is`, `settling-is`), and where none below i passed it, `lowest` is told by
--- the next (`search-hit`, `search-none`, `free-here`). The bound from the last place down: `trimmed-hit`, `trimmed-miss`. The columns of a table that is
--- owned: a store is the definition's `put_at` (`taken_at`, `freed-at`), past the last place it changes nothing; a loop of stores has gone over the first
--- i places (`Partly`). Flags are filled in one by one (`filled`). Ids are gathered place by place (`gathered-more`, `gathered-same`) and asked for
--- doubles number by number (`distinct-not`, `distinct_more`): the list from i on is split at its first element (`drop-cons`), and `live_ids` or
+-- A search: what the test of one place says of `meets` (`id-is`, `settling-is`), and where none below i passed it,
+-- `lowest` is told by the next (`search-hit`, `search-none`, `free-first`). The bound from the last place down:
+-- `trimmed-hit`, `trimmed-miss`. A store into a column is the definition's `put_at` (`taken_at`, `freed-at`), past the
+-- last place it changes nothing; a loop that frees places has gone over the first k (`gone`), and the others are as
+-- they were. Ids are gathered place by place (`gathered-more`, `gathered-same`) and asked for doubles number by number
+-- (`distinct-not`, `distinct_more`): the list from i on is split at its first element (`drop-cons`), and `live_ids` or
 -- `distinct` computes one step.
 -- Assumes nothing.
+use Rattle.std.specs.Prelude.{Option, Some, None, max, position}
+use Rattle.std.specs.List.{list_any, position_from}
+use Rattle.std.specs.Bool.{then_some}
+use Rattle.std.specs.Option.{option_or}
+use Rattle.std.proofs.lemmas.Iterator.Adapters.{position_from-zero}
 use Prim.Native.Nat.{ℕ, zero, suc, ◌+◌, ◌-◌, ◌≤◌, ◌<◌}
 use mathlib.Core.Path.{◌≡◌, refl, sym, ap, ◌∙◌}
-use mathlib.Core.Bool.{Bool, true, false, cond, not, ◌&&◌, ◌||◌, and-false, or-true, false≢true}
+use mathlib.Core.Bool.{Bool, true, false, cond, not, ◌&&◌, ◌||◌, and-false, or-true, or-false, false≢true}
 use mathlib.Core.List.{List, [], ◌∷◌, ◌++◌, append_assoc}
-use mathlib.Core.Option.{none, some}
-use native.Mathlib.Nat.{zero-add}
 use native.Mathlib.Numerals.{add-one}
 use native.Mathlib.Omega.{arith}
 use lib.ListN.{length, take, drop, get_or, set, drop_of_length-le}
-use lib.Seq.{drop-cons, take-suc-set, set_out, set-get_or, get_or-drop, get_or-set_same, get_or-set_other}
+use lib.Seq.{drop-cons, take-suc-set, set_out, get_or-drop, get_or-take, length-take-le, take-length}
+use Rattle.std.proofs.Common.{length-drop}
 use lib.Dec.{eqb, leb, ltb}
-use borrow.Author.Count.{below_more}
-use borrow.Author.Tests.{ltb-true, lt-ltb, le-ltb, le-leb}
+use borrow.Author.Tests.{eqb-true, eqb-false, ltb-true, ltb-false, lt-ltb, le-ltb, le-leb, lt-leb}
 use borrow.Table.Steps.{cases}
 use Rattle.device.specs.declared.Rows.{Rows}
 use Rattle.device.specs.declared.Scope.{Scope}
 use Rattle.device.specs.Device.{touched}
-use Rattle.scan.specs.Scan.{exists, each_at, tabulated, put_at}
-use Rattle.scan.specs.Loop.{up_to, upto-none, upto_all}
-use Rattle.scan.proofs.Searches.{upto_step, each-length, each_at_lem, tabulated-at, tabulated-is, set-put}
+use Rattle.scan.specs.Scan.{first_at, exists, tabulated, put_at}
+use Rattle.scan.proofs.Searches.{first_found, first-lowest, first_absent, tabulated-is, set-put}
 use Rattle.requests.specs.declared.Request.{Request}
 use Rattle.requests.specs.declared.Slot.{Slot}
 use Rattle.requests.specs.declared.Requests.{Requests}
 use Rattle.requests.specs.Requests.{places, Place, free_place, free_slot, slot_of, with_request, without, freed, is_data, ends, ids_differ, places_of, taken, is_setting, used_of, is_live, request_at, place_at, Query, Free, Id, Settling, meets, lowest, trimmed, same, distinct, live_ids}
-use Rattle.requests.proofs.Places.{lowest-is, lowest-none, place-live, live_below, past-used, places-length, places-at, without-same, when-differ}
+use Rattle.requests.proofs.Places.{lowest-is, lowest-none, place-live, live_below, past-used, places-length, places-at, ltb-same, place-without, without-same, without-twice, when-differ}
 
 -- ---- numbers and ids, one by one
 
@@ -42,6 +45,15 @@ module _ (l : List ℕ) (i : ℕ) (h : i < length l) where
   pub distinct_more : exists (same (get_or l i 0)) (drop (i + 1) l) ≡ false → distinct (drop i l) ≡ distinct (drop (i + 1) l)
   unfolding distinct
   distinct_more e = rw (add-one, drop-cons l i 0 h) (rw (rw add-one at e))
+
+-- the library's test of the numbers after i is the definition's
+any-exists : (l : List ℕ) (n : ℕ) → list_any (λ m. eqb m n) l ≡ exists (same n) l
+unfolding exists
+any-exists [] n = refl
+any-exists (m ∷ l) n = ap (λ b. eqb m n || b) (any-exists l n)
+
+pub rest-exists : (l : List ℕ) (k n : ℕ) → exists (same n) (drop k l) ≡ list_any (λ m. eqb m n) (take (length l - k) (drop k l))
+rest-exists l k n = rw (← length-drop k l, take-length) (sym (any-exists (drop k l) n))
 
 pub distinct_none : (l : List ℕ) (i : ℕ) → length l ≤ i → distinct (drop i l) ≡ true
 unfolding distinct
@@ -58,7 +70,7 @@ module _ (ids : List ℕ) (n : ℕ) (l : List Place) (i : ℕ) (h : i < length l
   unfolding live_ids
   live_same e = rw (add-one, drop-cons l i free_place h, e)
 
--- ---- a search over columns that are lent
+-- ---- a search
 
 if-id : (b l : Bool) (r : Request) (m : ℕ) → meets (Id m) (cond (b && l) (taken r) free_place) ≡ (b && (l && eqb r.id m))
 if-id true true r m = refl
@@ -74,70 +86,81 @@ if-free : (b : Bool) (r : Request) → meets Free (cond b (taken r) free_place) 
 if-free true r = refl
 if-free false r = refl
 
--- n is the bound of the table, l its column `live`
-module _ (t : Requests) (used n : ℕ) (l : List Bool) (u : t.used ≡ used) (v : t.live ≡ l) (b : n ≡ cond (leb used places) used places) where
-  used-is : used_of t ≡ n
-  used-is = ap (λ (m : ℕ). cond (leb m places) m places) u ∙ sym b
-
-  pub id-is : (ids : List ℕ) → t.ids ≡ ids → (m j : ℕ) → meets (Id m) (place_at t j) ≡ (ltb j n && (get_or l j false && eqb (get_or ids j 0) m))
+-- n is the bound of the table
+module _ (t : Requests) (n : ℕ) (b : n ≡ used_of t) where
+  pub id-is : (m j : ℕ) → meets (Id m) (place_at t j) ≡ (ltb j n && (get_or t.live j false && eqb (get_or t.ids j 0) m))
   unfolding place_at
-  id-is ids w m j =
-      if-id (ltb j (used_of t)) (get_or t.live j false) (request_at t j) m
-      ∙ (λ z. ltb j (used-is z) && (get_or (v z) j false && eqb (get_or (w z) j 0) m))
+  id-is m j = rw b (if-id (ltb j (used_of t)) (get_or t.live j false) (request_at t j) m)
 
-  pub settling-is : (kinds : List ℕ) → t.kinds ≡ kinds → (j : ℕ) → meets Settling (place_at t j) ≡ (ltb j n && (get_or l j false && is_setting (get_or kinds j 0)))
+  pub settling-is : (j : ℕ) → meets Settling (place_at t j) ≡ (ltb j n && (get_or t.live j false && is_setting (get_or t.kinds j 0)))
   unfolding place_at
-  settling-is kinds w j =
-      if-settling (ltb j (used_of t)) (get_or t.live j false) (request_at t j)
-      ∙ (λ z. ltb j (used-is z) && (get_or (v z) j false && is_setting (get_or (w z) j 0)))
+  settling-is j = rw b (if-settling (ltb j (used_of t)) (get_or t.live j false) (request_at t j))
 
-  free-is : (j : ℕ) → meets Free (place_at t j) ≡ not (ltb j n && get_or l j false)
+  free-is : (j : ℕ) → meets Free (place_at t j) ≡ not (ltb j n && get_or t.live j false)
   unfolding place_at
-  free-is j = if-free (is_live t j) (request_at t j) ∙ (λ z. not (ltb j (used-is z) && get_or (v z) j false))
-
-  -- i places are live
-  module _ (i : ℕ) (within : i ≤ n) (full : (j : ℕ) → j < i → get_or l j false ≡ true) where
-    no_lower : (j : ℕ) → j < i → meets Free (place_at t j) ≡ false
-    no_lower j h = free-is j ∙ rw (lt-ltb j n (omega arith), full j h)
-
-    -- the next is not, or lies past them
-    pub free-here : i < places → get_or l i false ≡ false → some i ≡ lowest t Free
-    free-here h e = sym (lowest-is t Free i h (free-is i ∙ rw (e, and-false (ltb i n))) no_lower)
-
-    pub free-next : i < places → n ≤ i → some i ≡ lowest t Free
-    free-next h k = sym (lowest-is t Free i h (free-is i ∙ rw (le-ltb i n k)) no_lower)
-
-    pub free-none : places ≤ i → none ≡ lowest t Free
-    free-none h = sym (lowest-none t Free (λ j k. no_lower j (omega arith)))
+  free-is j = rw b (if-free (is_live t j) (request_at t j))
 
 -- a search of n places by a test that none below i passes
 module _ (t : Requests) (q : Query) (n : ℕ) (test : ℕ → Bool) (is : (j : ℕ) → meets q (place_at t j) ≡ (ltb j n && test j)) where
   module _ (i : ℕ) (before : (j : ℕ) → j < i → test j ≡ false) where
-    pub search-hit : n ≤ places → i < n → test i ≡ true → some i ≡ lowest t q
+    pub search-hit : n ≤ places → i < n → test i ≡ true → Some i ≡ lowest t q
     search-hit low h e =
         sym (lowest-is t q i (omega arith) (is i ∙ rw (lt-ltb i n h, e)) (λ j k. is j ∙ rw (before j k) (and-false (ltb j n))))
 
-    pub search-none : n ≤ i → none ≡ lowest t q
+    pub search-none : n ≤ i → None ≡ lowest t q
     search-none h =
         sym (lowest-none t q (λ j k. is j ∙ cases (ltb j n) (λ e. rw (before j (omega (arith, ltb-true j n e))) (and-false (ltb j n))) (λ e. rw e)))
+
+from-first : (p : Bool → Bool) (i : ℕ) (l : List Bool) → position_from p i l ≡ first_at p i l
+unfolding first_at
+from-first p i [] = refl
+from-first p i (x ∷ xs) = ap (cond (p x) (Some i)) (rw add-one (from-first p (suc i) xs))
+
+position-first : (p : Bool → Bool) (l : List Bool) → position p l ≡ first_at p 0 l
+position-first p l = position_from-zero p l ∙ from-first p 0 l
+
+-- the first of the n flags that is not set, or the place after them
+module _ (t : Requests) (n : ℕ) (b : n ≡ used_of t) (low : n ≤ places) (long : length t.live ≡ places) where
+  many : length (take n t.live) ≡ n
+  many = length-take-le n t.live (rw long low)
+
+  flag : (j : ℕ) → j < n → meets Free (place_at t j) ≡ not (get_or (take n t.live) j false)
+  flag j h = free-is t n b j ∙ rw (lt-ltb j n h, get_or-take n t.live j false h)
+
+  past : meets Free (place_at t n) ≡ true
+  past = free-is t n b n ∙ rw (le-ltb n n (omega arith))
+
+  pub free-first : option_or (position not (take n t.live)) (then_some (ltb n places) n) ≡ lowest t Free
+  free-first = rw (position-first not (take n t.live)) (go (first_at not 0 (take n t.live)) refl)
+    where
+      go : (o : Option ℕ) → first_at not 0 (take n t.live) ≡ o → option_or o (then_some (ltb n places) n) ≡ lowest t Free
+      go (Some i) q =
+          let f = first_found not (take n t.live) i false q in
+          let h : i < n = rw many at f.0 in
+          sym (lowest-is t Free i (omega arith) (flag i h ∙ f.1)
+          (λ j k. flag j (omega arith) ∙ first-lowest not (take n t.live) i false q j k))
+      go None q =
+          let set : (j : ℕ) → j < n → meets Free (place_at t j) ≡ false = λ j h. flag j h ∙ first_absent not (take n t.live) false q j (rw many h) in
+          cases (ltb n places)
+          (λ w. rw w (sym (lowest-is t Free n (ltb-true n places w) past set)))
+          (λ w. rw w (sym (lowest-none t Free (λ j k. set j (omega (arith, ltb-false n places w))))))
 
 -- ---- a loop from the last place down
 
 module _ (l : List Bool) where
-  pub trimmed-hit : (n : ℕ) → 0 < n → get_or l (n - 1) false ≡ true → trimmed l n ≡ n
+  pub trimmed-hit : (n : ℕ) → 0 < n → get_or l (n - 1) false ≡ true → trimmed l n ≡ n - 1 + 1
   unfolding trimmed
   trimmed-hit zero h e = absurd (omega arith)
-  trimmed-hit (suc n) h e = let q : suc n - 1 ≡ n = omega arith in rw (rw q at e)
+  trimmed-hit (suc n) h e = let q : suc n - 1 ≡ n = omega arith in rw (rw q at e) (omega arith)
 
   pub trimmed-miss : (n : ℕ) → 0 < n → get_or l (n - 1) false ≡ false → trimmed l n ≡ trimmed l (n - 1)
   unfolding trimmed
   trimmed-miss zero h e = absurd (omega arith)
   trimmed-miss (suc n) h e = let q : suc n - 1 ≡ n = omega arith in rw (q, rw q at e)
 
-  pub trimmed-none : (n : ℕ) → n ≤ 0 → trimmed l n ≡ 0
+  pub trimmed-none : trimmed l 0 ≡ 0
   unfolding trimmed
-  trimmed-none zero h = refl
-  trimmed-none (suc n) h = absurd (omega arith)
+  trimmed-none = refl
 
 -- ---- columns of a table that is owned
 
@@ -166,6 +189,11 @@ unfolding without
 without-by t f u live kinds ids slots n e =
     let used = e ∙ ap (λ (l : List Bool). trimmed l (used_of t)) live in
     λ z. record { used = used z; live = live z; kinds = kinds z; ids = ids z; slots = slots z }
+
+pub raised : (m i : ℕ) → i < places → max m (i + 1) ≡ cond (ltb i m || leb places i) m (suc i)
+raised m i h = cases (ltb i m)
+    (λ e. let k : i < m = ltb-true i m e in rw e (omega arith))
+    (λ e. let k : m ≤ i = ltb-false i m e in rw (e, lt-leb places i h) (omega arith))
 
 module _ (t : Requests) (long : Long t) (i : ℕ) where
   pub taken_at : (r : Request) (u : ℕ) → u ≡ cond (ltb i t.used || leb places i) t.used (suc i)
@@ -201,7 +229,7 @@ module _ (t : Requests) (long : Long t) (i : ℕ) where
       }
 
   -- u is the table with the columns stored to; its number is trimmed then
-  module _ (u : Requests) (n : ℕ) (cut : n ≡ trimmed u.live (used_of t)) where
+  module _ (u : Requests) (n : ℕ) (cut : n ≡ trimmed u.live (used_of u)) where
     pub freed-at : (x : Slot) → x ≡ free_slot
         → u ≡ record {
           used = t.used;
@@ -217,7 +245,7 @@ module _ (t : Requests) (long : Long t) (i : ℕ) where
         ((λ z. (e z).kinds) ∙ set-put places 0 t.kinds i 0 long.kinds)
         ((λ z. (e z).ids) ∙ set-put places 0 t.ids i 0 long.ids)
         ((λ z. (e z).slots) ∙ ap (set t.slots i) y ∙ set-put places free_slot t.slots i free_slot long.slots)
-        n cut
+        n (cut ∙ (λ z. trimmed u.live (used_of (e z))))
 
     pub freed-past : places ≤ i → u ≡ t → with_used u n ≡ freed t i
     freed-past h e =
@@ -226,107 +254,64 @@ module _ (t : Requests) (long : Long t) (i : ℕ) where
         ((λ z. (e z).kinds) ∙ put-past 0 t.kinds i 0 long.kinds h)
         ((λ z. (e z).ids) ∙ put-past 0 t.ids i 0 long.ids h)
         ((λ z. (e z).slots) ∙ put-past free_slot t.slots i free_slot long.slots h)
-        n cut
+        n (cut ∙ (λ z. trimmed u.live (used_of (e z))))
 
--- ---- a loop that frees the places that a list of flags names
+-- ---- places freed one by one
 
-abbrev drops : {A : Type 0} → List Bool → A → ℕ → A → A
-drops these d j x = cond (get_or these j false) d x
+-- the number is trimmed, and no place is freed
+pub trimmed-free : (t : Requests) → Long t → (n : ℕ) → n ≡ trimmed t.live (used_of t) → with_used t n ≡ without t (λ (j : ℕ). false)
+trimmed-free t long n e = without-by t (λ j. false) t (whole false t.live long.live) (whole 0 t.kinds long.kinds) (whole 0 t.ids long.ids) (whole free_slot t.slots long.slots) n e
+  where
+    whole : {A : Type 0} (d : A) (l : List A) → length l ≡ places → l ≡ tabulated (λ (j : ℕ). get_or l j d) 0 places
+    whole d l h = tabulated-is (λ j. get_or l j d) l places d h (λ j k. refl)
 
--- the columns of u are those of t with the first i places gone over
-pub record Partly (t : Requests) (these : List Bool) (i : ℕ) (u : Requests) : Type 0 where
-  pub live : u.live ≡ up_to (drops these false) 0 i t.live
-  pub kinds : u.kinds ≡ up_to (drops these 0) 0 i t.kinds
-  pub ids : u.ids ≡ up_to (drops these 0) 0 i t.ids
-  pub slots : u.slots ≡ up_to (drops these free_slot) 0 i t.slots
+-- the places below k that pass the test are freed, besides those that f names
+module _ (t : Requests) (f : ℕ → Bool) (p : Place → Bool) where
+  abbrev pub gone : ℕ → ℕ → Bool
+  gone k j = f j || (ltb j k && p (place_at t j))
 
-module _ {A : Type 0} (these : List Bool) (d : A) (l : List A) (n : length l ≡ places) where
-  module _ (m : List A) (i : ℕ) (e : m ≡ up_to (drops these d) 0 i l) (h : i < places) where
-    column-hit : get_or these i false ≡ true → set m i d ≡ up_to (drops these d) 0 (i + 1) l
-    column-hit b = upto_step (drops these d) i l m d d (rw n h) e (rw b)
+  pub gone-none : without t f ≡ without t (gone 0)
+  gone-none = without-same t f (gone 0) (λ j h. rw (le-ltb j 0 (omega arith)) (sym (or-false (f j))))
 
-    column-miss : get_or these i false ≡ false → m ≡ up_to (drops these d) 0 (i + 1) l
-    column-miss b = sym (set-get_or m i d) ∙ upto_step (drops these d) i l m d (get_or m i d) (rw n h) e (rw b)
+  pub gone-all : without t (gone places) ≡ without t (λ (j : ℕ). f j || p (place_at t j))
+  gone-all = without-same t (gone places) (λ j. f j || p (place_at t j)) (λ j h. rw (lt-ltb j places h))
 
-  column-all : (i : ℕ) → places ≤ i → up_to (drops these d) 0 i l ≡ tabulated (λ (j : ℕ). cond (get_or these j false) d (get_or l j d)) 0 places
-  column-all i h =
-      upto_all (drops these d) 0 i l (rw n h)
-      ∙ tabulated-is (λ j. cond (get_or these j false) d (get_or l j d)) (each_at (drops these d) 0 l) places d (each-length (drops these d) l 0 ∙ n)
-      (λ k b. each_at_lem (drops these d) l 0 k d (rw n b) ∙ rw (zero-add k))
+  -- u is the table then; its place k is as it was, if f does not name it
+  module _ (k : ℕ) (u : Requests) (e : u ≡ without t (gone k)) where
+    not_yet : f k ≡ false → p (place_at u k) ≡ p (place_at t k)
+    not_yet h = ap (λ v. p (place_at v k)) e ∙ ap p (place-without t (gone k) k ∙ rw (h, le-ltb k k (omega arith)))
 
-pub partly_none : (t : Requests) (these : List Bool) → Partly t these 0 t
-partly_none t these =
-    record {
-      live = upto-none (drops these false) t.live;
-      kinds = upto-none (drops these 0) t.kinds;
-      ids = upto-none (drops these 0) t.ids;
-      slots = upto-none (drops these free_slot) t.slots;
-    }
+    gone-here : (b : Bool) → p (place_at u k) ≡ b → gone (k + 1) k ≡ (f k || b)
+    gone-here b h = cases (f k) (λ c. rw c) (λ c. rw (c, lt-ltb k (k + 1) (omega arith)) (sym (not_yet c) ∙ h))
 
-module _ (t : Requests) (long : Long t) (these : List Bool) (i : ℕ) (u : Requests) (p : Partly t these i u) where
-  -- v is u after round i
-  module _ (h : i < places) (v : Requests) where
-    pub partly-hit : get_or these i false ≡ true → (x : Slot) → x ≡ free_slot
-        → v ≡ record {
-          used = u.used;
-          live = set u.live i false;
-          kinds = set u.kinds i 0;
-          ids = set u.ids i 0;
-          slots = set u.slots i x;
-        }
-        → Partly t these (i + 1) v
-    partly-hit b x y e =
-        record {
-          live = (λ z. (e z).live) ∙ column-hit these false t.live long.live u.live i p.live h b;
-          kinds = (λ z. (e z).kinds) ∙ column-hit these 0 t.kinds long.kinds u.kinds i p.kinds h b;
-          ids = (λ z. (e z).ids) ∙ column-hit these 0 t.ids long.ids u.ids i p.ids h b;
-          slots = (λ z. (e z).slots) ∙ ap (set u.slots i) y ∙ column-hit these free_slot t.slots long.slots u.slots i p.slots h b;
-        }
+    gone-other : (j : ℕ) → eqb j k ≡ false → gone (k + 1) j ≡ gone k j
+    gone-other j n = ap (λ b. f j || (b && p (place_at t j))) (ltb-same j (k + 1) k (λ h. omega (arith, eqb-false j k n)) (λ h. omega arith))
 
-    pub partly-miss : get_or these i false ≡ false → v ≡ u → Partly t these (i + 1) v
-    partly-miss b e =
-        record {
-          live = (λ z. (e z).live) ∙ column-miss these false t.live long.live u.live i p.live h b;
-          kinds = (λ z. (e z).kinds) ∙ column-miss these 0 t.kinds long.kinds u.kinds i p.kinds h b;
-          ids = (λ z. (e z).ids) ∙ column-miss these 0 t.ids long.ids u.ids i p.ids h b;
-          slots = (λ z. (e z).slots) ∙ column-miss these free_slot t.slots long.slots u.slots i p.slots h b;
-        }
+    pub gone-more : p (place_at u k) ≡ true → freed u k ≡ without t (gone (k + 1))
+    gone-more h =
+        ap (λ v. freed v k) e ∙ without-twice t (gone k) (λ j. eqb j k)
+        ∙ without-same t (λ j. gone k j || eqb j k) (gone (k + 1)) (λ j w. cases (eqb j k)
+        (λ c. rw (c, or-true (gone k j), eqb-true j k c) (sym (gone-here true h ∙ or-true (f k))))
+        (λ c. rw (c, or-false (gone k j)) (sym (gone-other j c))))
 
-  pub partly-all : places ≤ i → (n : ℕ) → n ≡ trimmed u.live (used_of t) → with_used u n ≡ without t (λ (j : ℕ). get_or these j false)
-  partly-all h =
-      without-by t (λ j. get_or these j false) u
-      (p.live ∙ column-all these false t.live long.live i h)
-      (p.kinds ∙ column-all these 0 t.kinds long.kinds i h)
-      (p.ids ∙ column-all these 0 t.ids long.ids i h)
-      (p.slots ∙ column-all these free_slot t.slots long.slots i h)
+    pub gone-same : p (place_at u k) ≡ false → u ≡ without t (gone (k + 1))
+    gone-same h =
+        e ∙ without-same t (gone k) (gone (k + 1)) (λ j w. cases (eqb j k)
+        (λ c. rw (eqb-true j k c, le-ltb k k (omega arith)) (sym (gone-here false h)))
+        (λ c. sym (gone-other j c)))
 
--- the flags are those of a test
-pub flags-told : (t : Requests) (f : ℕ → Bool) (these : List Bool) → these ≡ tabulated f 0 places → without t (λ (j : ℕ). get_or these j false) ≡ without t f
-flags-told t f these e = without-same t (λ j. get_or these j false) f (λ j h. ap (λ (l : List Bool). get_or l j false) e ∙ tabulated-at f places j false h)
-
--- ---- a loop that fills a list
-
-pub filled : {A : Type 0} (f : ℕ → A) (l : List A) (d : A) (k : ℕ) (x : A) → k < length l → ((j : ℕ) → j < k → get_or l j d ≡ f j) → x ≡ f k
-    → (j : ℕ) → j < k + 1 → get_or (set l k x) j d ≡ f j
-filled f l d k x h before e =
-    below_more (λ j. get_or (set l k x) j d ≡ f j) k (λ j b. get_or-set_other l k j x d (λ q. absurd (omega arith)) ∙ before j b) (get_or-set_same l k x d h ∙ e)
-
--- what the flags say of a place
+-- what `ends` says of a place
 if-ends : (rows : Rows) (s : Scope) (b : Bool) (r : Request)
-    → ends rows s (cond b (taken r) free_place) ≡ (b && (is_data r.kind && touched rows s (record { 0 = r.target })))
+    → ends rows s (cond b (taken r) free_place) ≡ (b && is_data r.kind && touched rows s (record { 0 = r.target }))
 if-ends rows s true r = refl
 if-ends rows s false r = refl
 
-module _ (t : Requests) (n k : ℕ) (b : n ≡ used_of t) where
-  pub lives : (ltb k n && get_or t.live k false) ≡ (place_at t k).live
-  lives = rw b (sym (place-live t k))
+pub ends-is : (rows : Rows) (s : Scope) (t : Requests) (i : ℕ)
+    → ends rows s (place_at t i) ≡ ((place_at t i).live && is_data (get_or t.kinds i 0) && touched rows s (record { 0 = (get_or t.slots i free_slot).target }))
+unfolding place_at
+ends-is rows s t i = if-ends rows s (is_live t i) (request_at t i) ∙ ap (λ b. b && is_data (get_or t.kinds i 0) && touched rows s (record { 0 = (get_or t.slots i free_slot).target })) (sym (place-live t i))
 
-  pub ending_at : (rows : Rows) (s : Scope) (x : Bool) → x ≡ (is_data (get_or t.kinds k 0) && touched rows s (record { 0 = (get_or t.slots k free_slot).target }))
-      → ((ltb k n && get_or t.live k false) && x) ≡ ends rows s (place_at t k)
-  unfolding place_at
-  ending_at rows s x e = rw (b, e) (sym (if-ends rows s (is_live t k) (request_at t k)))
-
--- ---- the ids of a table whose columns are lent
+-- ---- the ids that are gathered
 
 -- no place is live
 none-live : (l : List Place) → ((j : ℕ) → (get_or l j free_place).live ≡ false) → live_ids l ≡ []
@@ -338,36 +323,33 @@ if-request : (b : Bool) (r : Request) → b ≡ true → (cond b (taken r) free_
 if-request true r e = refl
 if-request false r e = absurd (false≢true e)
 
-module _ (t : Requests) (used n : ℕ) (l : List Bool) (u : t.used ≡ used) (v : t.live ≡ l) (b : n ≡ cond (leb used places) used places) where
+-- n is the bound of the table
+module _ (t : Requests) (n : ℕ) (b : n ≡ used_of t) where
   -- of fewer than two places none has the id of another
   pub few-differ : n < 2 → true ≡ ids_differ t
-  few-differ h =
-      let q : used_of t ≡ n = used-is t used n l u v b in
-      sym (when-differ t (λ j k e f same. omega (arith, live_below t j e, live_below t k f)))
+  few-differ h = sym (when-differ t (λ j k e f same. omega (arith, live_below t j e, live_below t k f)))
 
   module _ (i : ℕ) where
-    lent-live : i < n → (place_at t i).live ≡ get_or l i false
-    lent-live h =
-        let e : is_live t i ≡ (ltb i n && get_or l i false) = λ z. ltb i (used-is t used n l u v b z) && get_or (v z) i false in
-        place-live t i ∙ e ∙ rw (lt-ltb i n h)
+    below-live : i < n → (place_at t i).live ≡ get_or t.live i false
+    below-live h = place-live t i ∙ rw (lt-ltb i (used_of t) (omega arith))
 
     -- one more id is gathered
-    pub gathered-more : (ids got : List ℕ) (k : ℕ) → t.ids ≡ ids → i < n → n ≤ places → k < length got → get_or l i false ≡ true
-        → take (k + 1) (set got k (get_or ids i 0)) ++ live_ids (drop (i + 1) (places_of t)) ≡ take k got ++ live_ids (drop i (places_of t))
+    pub gathered-more : (got : List ℕ) (k : ℕ) → i < n → n ≤ places → k < length got → get_or t.live i false ≡ true
+        → take (k + 1) (set got k (get_or t.ids i 0)) ++ live_ids (drop (i + 1) (places_of t)) ≡ take k got ++ live_ids (drop i (places_of t))
     unfolding place_at
-    gathered-more ids got k w h low room e =
+    gathered-more got k h low room e =
         let p = places-at t i in
-        let on : (place_at t i).live ≡ true = lent-live h ∙ e in
+        let on : (place_at t i).live ≡ true = below-live h ∙ e in
         let r : (place_at t i).request ≡ request_at t i = if-request (is_live t i) (request_at t i) (sym (place-live t i) ∙ on) in
-        let id : (get_or (places_of t) i free_place).request.id ≡ get_or ids i 0 = (λ z. (p z).request.id) ∙ (λ z. (r z).id) ∙ ap (λ (m : List ℕ). get_or m i 0) w in
+        let id : (get_or (places_of t) i free_place).request.id ≡ get_or t.ids i 0 = (λ z. (p z).request.id) ∙ (λ z. (r z).id) in
         rw (← id) (live_more got k (places_of t) i (rw (places-length t) (omega arith)) room ((λ z. (p z).live) ∙ on))
 
     -- or the place is free
-    pub gathered-same : (got : List ℕ) (k : ℕ) → i < n → n ≤ places → get_or l i false ≡ false
+    pub gathered-same : (got : List ℕ) (k : ℕ) → i < n → n ≤ places → get_or t.live i false ≡ false
         → take k got ++ live_ids (drop (i + 1) (places_of t)) ≡ take k got ++ live_ids (drop i (places_of t))
     gathered-same got k h low e =
         let p = places-at t i in
-        live_same got k (places_of t) i (rw (places-length t) (omega arith)) ((λ z. (p z).live) ∙ lent-live h ∙ e)
+        live_same got k (places_of t) i (rw (places-length t) (omega arith)) ((λ z. (p z).live) ∙ below-live h ∙ e)
 
     -- past the bound nothing is left
     pub gathered-all : n ≤ i → live_ids (drop i (places_of t)) ≡ []
@@ -375,6 +357,5 @@ module _ (t : Requests) (used n : ℕ) (l : List Bool) (u : t.used ≡ used) (v 
       where
         free : (j : ℕ) → (get_or (drop i (places_of t)) j free_place).live ≡ false
         free j =
-            let q : used_of t ≡ n = used-is t used n l u v b in
             let p : get_or (drop i (places_of t)) j free_place ≡ free_place = get_or-drop i (places_of t) j free_place ∙ places-at t (i + j) ∙ past-used t (i + j) (omega arith) in
             λ z. (p z).live

@@ -4,11 +4,11 @@
 -- a test over the list of places and, by induction over it, a relation between any two of them (`differ-when`, `when-differ`). What a search finds
 -- is `scan`'s.
 -- Assumes nothing.
+use Rattle.std.specs.Prelude.{Option, Some, None}
 use Prim.Native.Nat.{ℕ, zero, suc, ◌≤◌, ◌<◌}
 use mathlib.Core.Path.{◌≡◌, refl, sym, ap, ◌∙◌}
 use mathlib.Core.Bool.{Bool, true, false, cond, not, ◌&&◌, ◌||◌, true≢false, false≢true, and-false, or-false}
 use mathlib.Core.List.{List, [], ◌∷◌}
-use mathlib.Core.Option.{Option, none, some}
 use native.Mathlib.Omega.{arith}
 use lib.ListN.{length, get_or}
 use lib.Dec.{eqb, leb, ltb}
@@ -105,35 +105,35 @@ fresh_at i = past-used fresh_requests i (omega arith)
 
 module _ (t : Requests) (q : Query) where
   -- it is one of the 96 and meets it
-  pub lowest-found : (i : ℕ) → lowest t q ≡ some i → (i < places) × (meets q (place_at t i) ≡ true)
+  pub lowest-found : (i : ℕ) → lowest t q ≡ Some i → (i < places) × (meets q (place_at t i) ≡ true)
   unfolding lowest
   lowest-found i e =
       let r = first_found (meets q) (places_of t) i free_place e in
       (rw (places-length t) at r.0, sym (ap (meets q) (places-at t i)) ∙ r.1)
 
   -- no lower one does
-  pub lowest-lower : (i : ℕ) → lowest t q ≡ some i → (j : ℕ) → j < i → meets q (place_at t j) ≡ false
+  pub lowest-lower : (i : ℕ) → lowest t q ≡ Some i → (j : ℕ) → j < i → meets q (place_at t j) ≡ false
   unfolding lowest
   lowest-lower i e j h = sym (ap (meets q) (places-at t j)) ∙ first-lowest (meets q) (places_of t) i free_place e j h
 
   -- where no place meets it, none is found
-  pub lowest-none : ((j : ℕ) → j < places → meets q (place_at t j) ≡ false) → lowest t q ≡ none
+  pub lowest-none : ((j : ℕ) → j < places → meets q (place_at t j) ≡ false) → lowest t q ≡ None
   unfolding lowest
   lowest-none h =
       first-never (meets q) (places_of t) free_place (λ j k. ap (meets q) (places-at t j) ∙ h j (rw (places-length t) at k))
 
   -- where none is found, no place meets it
-  pub lowest-absent : lowest t q ≡ none → (j : ℕ) → j < places → meets q (place_at t j) ≡ false
+  pub lowest-absent : lowest t q ≡ None → (j : ℕ) → j < places → meets q (place_at t j) ≡ false
   unfolding lowest
   lowest-absent e j h = sym (ap (meets q) (places-at t j)) ∙ first_absent (meets q) (places_of t) free_place e j (rw (places-length t) h)
 
   -- where a place meets it, one is found
-  pub lowest-some : (j : ℕ) → j < places → meets q (place_at t j) ≡ true → (i : ℕ) × (lowest t q ≡ some i)
+  pub lowest-some : (j : ℕ) → j < places → meets q (place_at t j) ≡ true → (i : ℕ) × (lowest t q ≡ Some i)
   unfolding lowest
   lowest-some j h e = first_some (meets q) (places_of t) free_place j (rw (places-length t) h) (ap (meets q) (places-at t j) ∙ e)
 
   -- the place that meets it, where no lower one does
-  pub lowest-is : (i : ℕ) → i < places → meets q (place_at t i) ≡ true → ((j : ℕ) → j < i → meets q (place_at t j) ≡ false) → lowest t q ≡ some i
+  pub lowest-is : (i : ℕ) → i < places → meets q (place_at t i) ≡ true → ((j : ℕ) → j < i → meets q (place_at t j) ≡ false) → lowest t q ≡ Some i
   unfolding lowest
   lowest-is i h e lower =
       first-when (meets q) (places_of t) i free_place (rw (places-length t) h) (ap (meets q) (places-at t i) ∙ e)
@@ -142,7 +142,7 @@ module _ (t : Requests) (q : Query) where
 -- ---- what a change leaves
 
 -- a number is below both or below neither
-ltb-same : (j m n : ℕ) → (j < m → j < n) → (j < n → j < m) → ltb j m ≡ ltb j n
+pub ltb-same : (j m n : ℕ) → (j < m → j < n) → (j < n → j < m) → ltb j m ≡ ltb j n
 ltb-same j m n f g =
     cases (ltb j m)
     (λ e. e ∙ sym (lt-ltb j n (f (ltb-true j m e))))
@@ -209,7 +209,7 @@ module _ (t : Requests) (i : ℕ) (r : Request) (low : i < places) where
           (rw (below_other full j (eqb-false j i e), taken_live j h, e))
           (λ a. taken-request j h ∙ rw e)
 
-pub place-taken : (t : Requests) (i : ℕ) (r : Request) → lowest t Free ≡ some i → (j : ℕ) → place_at (with_request t i r) j ≡ cond (eqb j i) (taken r) (place_at t j)
+pub place-taken : (t : Requests) (i : ℕ) (r : Request) → lowest t Free ≡ Some i → (j : ℕ) → place_at (with_request t i r) j ≡ cond (eqb j i) (taken r) (place_at t j)
 place-taken t i r free j = cases (eqb j i) (λ e. here e) (λ e. taken-other t i r low full j e ∙ rw e)
   where
     low : i < places
@@ -297,6 +297,44 @@ without-same t f g h =
   where
     column : {A : Type 0} (d : A) (l : List A) → tabulated (λ (j : ℕ). cond (f j) d (get_or l j d)) 0 places ≡ tabulated (λ (j : ℕ). cond (g j) d (get_or l j d)) 0 places
     column d l = tabulated-same (λ j. cond (f j) d (get_or l j d)) (λ j. cond (g j) d (get_or l j d)) places d (λ j b. ap (λ (x : Bool). cond x d (get_or l j d)) (h j b))
+
+-- trimmed twice: the second list has no more flags than the first
+trimmed-twice : (l m : List Bool) (n : ℕ) → ((j : ℕ) → get_or l j false ≡ false → get_or m j false ≡ false) → trimmed m (trimmed l n) ≡ trimmed m n
+unfolding trimmed
+trimmed-twice l m zero h = refl
+trimmed-twice l m (suc n) h = cases (get_or l n false) (λ e. rw e) (λ e. rw (e, h n e) (trimmed-twice l m n h))
+
+-- places are freed, and then others
+module _ (t : Requests) (f g : ℕ → Bool) where
+  abbrev one : {A : Type 0} → A → List A → List A
+  one d l = tabulated (λ (j : ℕ). cond (f j) d (get_or l j d)) 0 places
+
+  abbrev both : {A : Type 0} → A → List A → List A
+  both d l = tabulated (λ (j : ℕ). cond (g j) d (get_or (one d l) j d)) 0 places
+
+  both-column : {A : Type 0} (d : A) (l : List A) → both d l ≡ tabulated (λ (j : ℕ). cond (f j || g j) d (get_or l j d)) 0 places
+  both-column d l =
+      tabulated-same (λ j. cond (g j) d (get_or (one d l) j d)) (λ j. cond (f j || g j) d (get_or l j d)) places d
+      (λ j h.
+      ap (cond (g j) d) (tabulated-at (λ k. cond (f k) d (get_or l k d)) places j d h)
+      ∙ cases (f j) (λ e. rw e (cases (g j) (λ k. rw k) (λ k. rw k))) (λ e. rw e))
+
+  fewer : (j : ℕ) → get_or (one false t.live) j false ≡ false → get_or (both false t.live) j false ≡ false
+  fewer j e =
+      let both-at = λ (k : ℕ). cond (g k) false (get_or (one false t.live) k false) in
+      cases (ltb j places)
+      (λ h. tabulated-at both-at places j false (ltb-true j places h) ∙ rw e (cases (g j) (λ k. rw k) (λ k. rw k)))
+      (λ h. tabulated-past both-at places j false (ltb-false j places h))
+
+  pub without-twice : without (without t f) g ≡ without t (λ (j : ℕ). f j || g j)
+  unfolding without
+  without-twice =
+      let live = both-column false t.live in
+      let kinds = both-column 0 t.kinds in
+      let ids = both-column 0 t.ids in
+      let slots = both-column free_slot t.slots in
+      let used = ap (trimmed (both false t.live)) (without-used t f) ∙ trimmed-twice (one false t.live) (both false t.live) (used_of t) fewer in
+      λ z. record { used = (used ∙ ap (λ (l : List Bool). trimmed l (used_of t)) live) z; live = live z; kinds = kinds z; ids = ids z; slots = slots z }
 
 pub released-at : (t : Requests) (i : ℕ) (rows : Rows) (s : Scope) (j : ℕ)
     → place_at (released t i rows s) j ≡ cond (eqb j i || ends rows s (place_at t j)) free_place (place_at t j)
@@ -450,7 +488,7 @@ module _ (t : Requests) (d : ids_differ t ≡ true) where
   cleared-differ = without-differ (λ j. (place_at t j).live)
 
   -- the new request clashes with no place, since none that is live has its id; two other places are as they were
-  pub taken-differ : (i : ℕ) (r : Request) → lowest t Free ≡ some i → lowest t (Id r.id) ≡ none → ids_differ (with_request t i r) ≡ true
+  pub taken-differ : (i : ℕ) (r : Request) → lowest t Free ≡ Some i → lowest t (Id r.id) ≡ None → ids_differ (with_request t i r) ≡ true
   taken-differ i r free n =
       differ-by (with_request t i r) (λ j. now (eqb j i) j) (place-taken t i r free) (λ j k. apart j k (eqb j i) (eqb k i) refl refl)
     where
@@ -470,8 +508,8 @@ module _ (t : Requests) (d : ids_differ t ≡ true) where
 -- ---- a reply's request is the live one with its id
 
 abbrev pub answered_by : Request → Answerable → Requests → Option ℕ → Option ℕ
-answered_by r a t none = none
-answered_by r a t (some i) = cond (answers r a (place_at t i).request) (some i) none
+answered_by r a t None = None
+answered_by r a t (Some i) = cond (answers r a (place_at t i).request) (Some i) None
 
 -- a request that is answered has the reply's id
 answered-id : (r : Request) (a : Answerable) (p : Place) → meets (Answered r a) p ≡ true → meets (Id r.id) p ≡ true
@@ -494,14 +532,14 @@ answered-by-id t d r a = go (lowest t (Id r.id)) refl
     q = Answered r a
 
     -- another place is not answered, since it has not the id of place i
-    none-else : (i : ℕ) → lowest t (Id r.id) ≡ some i → answers r a (place_at t i).request ≡ false → (j : ℕ) → j < places → meets q (place_at t j) ≡ true → ⊥
+    none-else : (i : ℕ) → lowest t (Id r.id) ≡ Some i → answers r a (place_at t i).request ≡ false → (j : ℕ) → j < places → meets q (place_at t j) ≡ true → ⊥
     none-else i e f j h m =
         let x = id-had r.id (place_at t i) (lowest-found t (Id r.id) i e).1 in
         let y = id-had r.id (place_at t j) (answered-id r a (place_at t j) m) in
         let s : i ≡ j = differ-when t d i j x.0 y.0 (x.1 ∙ sym y.1) in
         true≢false (sym (and_parts (place_at t j).live (answers r a (place_at t j).request) m).1 ∙ sym (ap (λ (k : ℕ). answers r a (place_at t k).request) s) ∙ f)
 
-    at_place : (i : ℕ) → lowest t (Id r.id) ≡ some i → lowest t q ≡ answered_by r a t (some i)
+    at_place : (i : ℕ) → lowest t (Id r.id) ≡ Some i → lowest t q ≡ answered_by r a t (Some i)
     at_place i e =
         cases (answers r a (place_at t i).request)
         (λ b.
@@ -513,5 +551,5 @@ answered-by-id t d r a = go (lowest t (Id r.id)) refl
         (λ b. lowest-none t q (λ j h. cases (meets q (place_at t j)) (λ m. absurd (none-else i e b j h m)) (λ m. m)) ∙ rw b)
 
     go : (o : Option ℕ) → lowest t (Id r.id) ≡ o → lowest t q ≡ answered_by r a t (lowest t (Id r.id))
-    go none e = lowest-none t q (λ j h. other-id r a (place_at t j) (lowest-absent t (Id r.id) e j h)) ∙ sym (ap (answered_by r a t) e)
-    go (some i) e = at_place i e ∙ sym (ap (answered_by r a t) e)
+    go None e = lowest-none t q (λ j h. other-id r a (place_at t j) (lowest-absent t (Id r.id) e j h)) ∙ sym (ap (answered_by r a t) e)
+    go (Some i) e = at_place i e ∙ sym (ap (answered_by r a t) e)

@@ -1,7 +1,6 @@
 -- The table of 96 places for requests: what a place holds, what is looked for, taking and freeing places.
 -- Assumes nothing: these are definitions.
-use Rattle.std.specs.Prelude.{ℕ, zero, suc, ◌≡◌, Bool, true, false, cond, not, ◌&&◌, ◌||◌, List, [], ◌∷◌, ◌++◌, get_or, replicate, eqb, leb, ltb}
-use Rattle.std.proofs.Math.Option.{Option, none, some}
+use Rattle.std.specs.Prelude.{ℕ, zero, suc, Bool, true, false, cond, not, ◌&&◌, ◌||◌, List, [], ◌∷◌, ◌++◌, get_or, replicate, eqb, leb, ltb, Option}
 use Rattle.device.specs.declared.Rows.{Rows}
 use Rattle.device.specs.declared.Scope.{Scope}
 use Rattle.device.specs.Device.{touched}
@@ -10,8 +9,6 @@ use Rattle.requests.specs.declared.Request.{Request}
 use Rattle.requests.specs.declared.Slot.{Slot}
 use Rattle.requests.specs.declared.Requests.{Requests}
 use Rattle.requests.specs.declared.Answerable.{Answerable}
-use Rattle.requests.specs.declared.FoundPlace.{FoundPlace}
-use Rattle.requests.specs.declared.FoundPlace.TheVariants.{AtPlace, NoPlace}
 
 -- ---- places
 
@@ -101,14 +98,6 @@ has_id n p = meets (Id n) p
 unfoldable pub lowest : Requests → Query → Option ℕ
 lowest t q = first_at (meets q) 0 (places_of t)
 
-abbrev pub is_some : Option ℕ → Bool
-is_some none = false
-is_some (some i) = true
-
-abbrev pub found_at : FoundPlace → Option ℕ
-found_at (AtPlace i) = some i
-found_at NoPlace = none
-
 -- ---- taking and freeing
 
 -- a request takes place i, of 96; nothing changes past the last
@@ -171,12 +160,3 @@ live_ids (p ∷ ps) = cond p.live (p.request.id ∷ []) [] ++ live_ids ps
 
 unfoldable pub ids_differ : Requests → Bool
 ids_differ t = distinct (live_ids (places_of t))
-
--- ---- a table of which only some columns are lent
-
--- these are the columns that the searches go over
-pub record Lent (t : Requests) (n : ℕ) (flags : List Bool) (numbers names : List ℕ) : Type 0 where
-  pub used : t.used ≡ n
-  pub live : t.live ≡ flags
-  pub kinds : t.kinds ≡ numbers
-  pub ids : t.ids ≡ names

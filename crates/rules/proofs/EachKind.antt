@@ -1,5 +1,6 @@
 -- What each kind's rules find is what the table's checks say: a law for each variant, by computation.
 -- Assumes nothing.
+use Rattle.std.specs.Prelude.{Option, Some, None, is_some}
 use Prim.Native.Nat.{ℕ, zero, suc, ◌+◌, ◌*◌, ◌/◌, ◌%◌, ◌≤◌, ◌<◌}
 use native.Mathlib.Nat.{add-zero}
 use native.Mathlib.Numerals.{add-one}
@@ -7,7 +8,6 @@ use native.Mathlib.Omega.{arith}
 use mathlib.Core.Path.{◌≡◌, refl, sym, ap, ◌∙◌}
 use mathlib.Core.Bool.{Bool, true, false, cond, not, ◌&&◌, ◌||◌, false≢true, or-false, and-true}
 use mathlib.Core.List.{List, [], ◌∷◌}
-use mathlib.Core.Option.{Option, none, some}
 use lib.ListN.{length, drop}
 use lib.Dec.{eqb, leb, ltb, lit<, lit≤, leb-suc-zero, leb-suc-suc}
 use borrow.Author.Tests.{eqb-true, ltb-false, le-leb, lt-leb}
@@ -23,8 +23,6 @@ use Rattle.kinds.specs.Number.{onward, or_else, address_ok, zero_at, holds, firs
 use Rattle.kinds.specs.Codec.{layout}
 use Rattle.kinds.proofs.FieldBytes.{complete-split, numbers_after}
 use Rattle.packet.specs.declared.Part.{Part}
-use Rattle.packet.specs.declared.Optional16.{Optional16}
-use Rattle.packet.specs.declared.Optional16.TheVariants.{Absent, Present}
 use Rattle.packet.specs.declared.Hello.{Hello as HelloFields}
 use Rattle.packet.specs.declared.Connect.{Connect as ConnectFields}
 use Rattle.packet.specs.declared.InterfaceTable.{InterfaceTable as InterfaceTableFields}
@@ -53,30 +51,24 @@ use Rattle.packet.specs.declared.Iso.{Iso as IsoFields}
 use Rattle.packet.specs.declared.Interrupt.{Interrupt as InterruptFields}
 use Rattle.packet.specs.declared.BufferedBulk.{BufferedBulk as BufferedBulkFields}
 use Rattle.packet.specs.declared.Packet.TheVariants.{Hello, Connect, Disconnect, Reset, InterfaceTable, EndpointTable, SetConfiguration, GetConfiguration, ConfigurationStatus, SetAlt, GetAlt, AltStatus, StartIso, StopIso, IsoStatus, StartInterrupt, StopInterrupt, InterruptStatus, AllocStreams, FreeStreams, StreamsStatus, Cancel, FilterReject, Filter, DisconnectAck, StartBulkReceiving, StopBulkReceiving, BulkReceivingStatus, Control, Bulk, Iso, Interrupt, BufferedBulk}
-use Rattle.packet.specs.Packet.{in_part, no_part, rows_in, columns_in, columns_of, is_given, content_of}
+use Rattle.packet.specs.Packet.{in_part, no_part, rows_in, columns_in, columns_of, content_of}
 use Rattle.packet.specs.Rows.{table_size}
 use Rattle.packet.proofs.Rows.{table-size}
-use Rattle.rules.specs.declared.Fault.{Fault}
-use Rattle.rules.specs.declared.Fault.TheVariants.{None, At}
-use Rattle.rules.specs.Findings.{Finds, findings, fault_of, no_id, type_fault}
+use Rattle.rules.specs.Findings.{Finds, findings, no_id, type_fault}
 
-fault-else : (b : Bool) (a : ℕ) (y : Option ℕ) → fault_of (or_else (cond b none (some a)) y) ≡ cond b (fault_of y) (At a)
-fault-else true a y = refl
-fault-else false a y = refl
+fault-step : (b : Bool) (x : Option ℕ) (a : ℕ) (y : Option ℕ) → or_else (cond b x (Some a)) y ≡ cond b (or_else x y) (Some a)
+fault-step true x a y = refl
+fault-step false x a y = refl
 
 or_assoc : (x y z : Option ℕ) → or_else (or_else x y) z ≡ or_else x (or_else y z)
-or_assoc none y z = refl
-or_assoc (some a) y z = refl
-
-fault-last : (b : Bool) (a : ℕ) → fault_of (cond b none (some a)) ≡ cond b None (At a)
-fault-last true a = refl
-fault-last false a = refl
+or_assoc None y z = refl
+or_assoc (Some a) y z = refl
 
 -- ---- the kinds with fields of numbers alone
 
 pub disconnect : (from : Side) (caps id : ℕ) (body : List ℕ) → Finds from caps id Disconnect body (findings 2 false true (no_id id) false)
 unfolding kinds layout content_of bad
-disconnect from caps id body = record { small = lit< tt; kind = refl; surplus = refl; sized = refl; fault = λ h. simp fault-last; alone = refl }
+disconnect from caps id body = record { small = lit< tt; kind = refl; surplus = refl; sized = refl; fault = λ h. refl; alone = refl }
 
 pub reset : (from : Side) (caps id : ℕ) (body : List ℕ) → Finds from caps id Reset body (findings 3 false true None false)
 unfolding kinds layout content_of bad
@@ -106,37 +98,37 @@ pub alt_status : (from : Side) (caps id : ℕ) (x : AltStatusFields) (body : Lis
 unfolding kinds layout content_of bad
 alt_status from caps id x body = record { small = lit< tt; kind = refl; surplus = refl; sized = refl; fault = λ h. refl; alone = refl }
 
-pub start_iso : (from : Side) (caps id : ℕ) (x : StartIsoFields) (body : List ℕ) → Finds from caps id (StartIso x) body (findings 12 false true (cond (address_ok x.endpoint.0) None (At 0)) false)
+pub start_iso : (from : Side) (caps id : ℕ) (x : StartIsoFields) (body : List ℕ) → Finds from caps id (StartIso x) body (findings 12 false true (cond (address_ok x.endpoint.0) None (Some 0)) false)
 unfolding kinds layout content_of bad
-start_iso from caps id x body = record { small = lit< tt; kind = refl; surplus = refl; sized = refl; fault = λ h. simp (or_assoc, fault-else); alone = refl }
+start_iso from caps id x body = record { small = lit< tt; kind = refl; surplus = refl; sized = refl; fault = λ h. simp fault-step; alone = refl }
 
-pub stop_iso : (from : Side) (caps id : ℕ) (x : StopIsoFields) (body : List ℕ) → Finds from caps id (StopIso x) body (findings 13 false true (cond (address_ok x.endpoint.0) None (At 0)) false)
+pub stop_iso : (from : Side) (caps id : ℕ) (x : StopIsoFields) (body : List ℕ) → Finds from caps id (StopIso x) body (findings 13 false true (cond (address_ok x.endpoint.0) None (Some 0)) false)
 unfolding kinds layout content_of bad
-stop_iso from caps id x body = record { small = lit< tt; kind = refl; surplus = refl; sized = refl; fault = λ h. simp (or_assoc, fault-else); alone = refl }
+stop_iso from caps id x body = record { small = lit< tt; kind = refl; surplus = refl; sized = refl; fault = λ h. simp fault-step; alone = refl }
 
-pub iso_status : (from : Side) (caps id : ℕ) (x : IsoStatusFields) (body : List ℕ) → Finds from caps id (IsoStatus x) body (findings 14 false true (cond (address_ok x.endpoint.0) None (At 1)) false)
+pub iso_status : (from : Side) (caps id : ℕ) (x : IsoStatusFields) (body : List ℕ) → Finds from caps id (IsoStatus x) body (findings 14 false true (cond (address_ok x.endpoint.0) None (Some 1)) false)
 unfolding kinds layout content_of bad
-iso_status from caps id x body = record { small = lit< tt; kind = refl; surplus = refl; sized = refl; fault = λ h. simp (or_assoc, fault-else); alone = refl }
+iso_status from caps id x body = record { small = lit< tt; kind = refl; surplus = refl; sized = refl; fault = λ h. simp fault-step; alone = refl }
 
-pub start_interrupt : (from : Side) (caps id : ℕ) (x : StartInterruptFields) (body : List ℕ) → Finds from caps id (StartInterrupt x) body (findings 15 false true (cond (address_ok x.endpoint.0 && eqb (x.endpoint.0 / 128) 1) None (At 0)) false)
+pub start_interrupt : (from : Side) (caps id : ℕ) (x : StartInterruptFields) (body : List ℕ) → Finds from caps id (StartInterrupt x) body (findings 15 false true (cond (address_ok x.endpoint.0 && eqb (x.endpoint.0 / 128) 1) None (Some 0)) false)
 unfolding kinds layout content_of bad
-start_interrupt from caps id x body = record { small = lit< tt; kind = refl; surplus = refl; sized = refl; fault = λ h. simp (or_assoc, fault-else); alone = refl }
+start_interrupt from caps id x body = record { small = lit< tt; kind = refl; surplus = refl; sized = refl; fault = λ h. simp fault-step; alone = refl }
 
-pub stop-interrupt : (from : Side) (caps id : ℕ) (x : StopInterruptFields) (body : List ℕ) → Finds from caps id (StopInterrupt x) body (findings 16 false true (cond (address_ok x.endpoint.0 && eqb (x.endpoint.0 / 128) 1) None (At 0)) false)
+pub stop-interrupt : (from : Side) (caps id : ℕ) (x : StopInterruptFields) (body : List ℕ) → Finds from caps id (StopInterrupt x) body (findings 16 false true (cond (address_ok x.endpoint.0 && eqb (x.endpoint.0 / 128) 1) None (Some 0)) false)
 unfolding kinds layout content_of bad
-stop-interrupt from caps id x body = record { small = lit< tt; kind = refl; surplus = refl; sized = refl; fault = λ h. simp (or_assoc, fault-else); alone = refl }
+stop-interrupt from caps id x body = record { small = lit< tt; kind = refl; surplus = refl; sized = refl; fault = λ h. simp fault-step; alone = refl }
 
-pub interrupt-status : (from : Side) (caps id : ℕ) (x : InterruptStatusFields) (body : List ℕ) → Finds from caps id (InterruptStatus x) body (findings 17 false true (cond (address_ok x.endpoint.0) None (At 1)) false)
+pub interrupt-status : (from : Side) (caps id : ℕ) (x : InterruptStatusFields) (body : List ℕ) → Finds from caps id (InterruptStatus x) body (findings 17 false true (cond (address_ok x.endpoint.0) None (Some 1)) false)
 unfolding kinds layout content_of bad
-interrupt-status from caps id x body = record { small = lit< tt; kind = refl; surplus = refl; sized = refl; fault = λ h. simp (or_assoc, fault-else); alone = refl }
+interrupt-status from caps id x body = record { small = lit< tt; kind = refl; surplus = refl; sized = refl; fault = λ h. simp fault-step; alone = refl }
 
-pub alloc-streams : (from : Side) (caps id : ℕ) (x : AllocStreamsFields) (body : List ℕ) → Finds from caps id (AllocStreams x) body (findings 18 false true (cond (not (eqb x.mask 0)) None (At 0)) false)
+pub alloc-streams : (from : Side) (caps id : ℕ) (x : AllocStreamsFields) (body : List ℕ) → Finds from caps id (AllocStreams x) body (findings 18 false true (cond (not (eqb x.mask 0)) None (Some 0)) false)
 unfolding kinds layout content_of bad
-alloc-streams from caps id x body = record { small = lit< tt; kind = refl; surplus = refl; sized = refl; fault = λ h. simp (or_assoc, fault-else); alone = refl }
+alloc-streams from caps id x body = record { small = lit< tt; kind = refl; surplus = refl; sized = refl; fault = λ h. simp fault-step; alone = refl }
 
-pub free-streams : (from : Side) (caps id : ℕ) (x : FreeStreamsFields) (body : List ℕ) → Finds from caps id (FreeStreams x) body (findings 19 false true (cond (not (eqb x.mask 0)) None (At 0)) false)
+pub free-streams : (from : Side) (caps id : ℕ) (x : FreeStreamsFields) (body : List ℕ) → Finds from caps id (FreeStreams x) body (findings 19 false true (cond (not (eqb x.mask 0)) None (Some 0)) false)
 unfolding kinds layout content_of bad
-free-streams from caps id x body = record { small = lit< tt; kind = refl; surplus = refl; sized = refl; fault = λ h. simp (or_assoc, fault-else); alone = refl }
+free-streams from caps id x body = record { small = lit< tt; kind = refl; surplus = refl; sized = refl; fault = λ h. simp fault-step; alone = refl }
 
 pub streams-status : (from : Side) (caps id : ℕ) (x : StreamsStatusFields) (body : List ℕ) → Finds from caps id (StreamsStatus x) body (findings 20 false true None false)
 unfolding kinds layout content_of bad
@@ -148,53 +140,53 @@ cancel from caps id body = record { small = lit< tt; kind = refl; surplus = refl
 
 pub filter-reject : (from : Side) (caps id : ℕ) (body : List ℕ) → Finds from caps id FilterReject body (findings 22 false true (no_id id) false)
 unfolding kinds layout content_of bad
-filter-reject from caps id body = record { small = lit< tt; kind = refl; surplus = refl; sized = refl; fault = λ h. simp fault-last; alone = refl }
+filter-reject from caps id body = record { small = lit< tt; kind = refl; surplus = refl; sized = refl; fault = λ h. refl; alone = refl }
 
 pub disconnect-ack : (from : Side) (caps id : ℕ) (body : List ℕ) → Finds from caps id DisconnectAck body (findings 24 false true (no_id id) false)
 unfolding kinds layout content_of bad
-disconnect-ack from caps id body = record { small = lit< tt; kind = refl; surplus = refl; sized = refl; fault = λ h. simp fault-last; alone = refl }
+disconnect-ack from caps id body = record { small = lit< tt; kind = refl; surplus = refl; sized = refl; fault = λ h. refl; alone = refl }
 
-pub start-bulk-receiving : (from : Side) (caps id : ℕ) (x : StartBulkReceivingFields) (body : List ℕ) → Finds from caps id (StartBulkReceiving x) body (findings 25 false true (cond (address_ok x.endpoint.0 && eqb (x.endpoint.0 / 128) 1) None (At 8)) false)
+pub start-bulk-receiving : (from : Side) (caps id : ℕ) (x : StartBulkReceivingFields) (body : List ℕ) → Finds from caps id (StartBulkReceiving x) body (findings 25 false true (cond (address_ok x.endpoint.0 && eqb (x.endpoint.0 / 128) 1) None (Some 8)) false)
 unfolding kinds layout content_of bad
-start-bulk-receiving from caps id x body = record { small = lit< tt; kind = refl; surplus = refl; sized = refl; fault = λ h. simp (or_assoc, fault-else); alone = refl }
+start-bulk-receiving from caps id x body = record { small = lit< tt; kind = refl; surplus = refl; sized = refl; fault = λ h. simp fault-step; alone = refl }
 
-pub stop-bulk-receiving : (from : Side) (caps id : ℕ) (x : StopBulkReceivingFields) (body : List ℕ) → Finds from caps id (StopBulkReceiving x) body (findings 26 false true (cond (address_ok x.endpoint.0 && eqb (x.endpoint.0 / 128) 1) None (At 4)) false)
+pub stop-bulk-receiving : (from : Side) (caps id : ℕ) (x : StopBulkReceivingFields) (body : List ℕ) → Finds from caps id (StopBulkReceiving x) body (findings 26 false true (cond (address_ok x.endpoint.0 && eqb (x.endpoint.0 / 128) 1) None (Some 4)) false)
 unfolding kinds layout content_of bad
-stop-bulk-receiving from caps id x body = record { small = lit< tt; kind = refl; surplus = refl; sized = refl; fault = λ h. simp (or_assoc, fault-else); alone = refl }
+stop-bulk-receiving from caps id x body = record { small = lit< tt; kind = refl; surplus = refl; sized = refl; fault = λ h. simp fault-step; alone = refl }
 
-pub bulk-receiving-status : (from : Side) (caps id : ℕ) (x : BulkReceivingStatusFields) (body : List ℕ) → Finds from caps id (BulkReceivingStatus x) body (findings 27 false true (cond (address_ok x.endpoint.0 && eqb (x.endpoint.0 / 128) 1) None (At 4)) false)
+pub bulk-receiving-status : (from : Side) (caps id : ℕ) (x : BulkReceivingStatusFields) (body : List ℕ) → Finds from caps id (BulkReceivingStatus x) body (findings 27 false true (cond (address_ok x.endpoint.0 && eqb (x.endpoint.0 / 128) 1) None (Some 4)) false)
 unfolding kinds layout content_of bad
-bulk-receiving-status from caps id x body = record { small = lit< tt; kind = refl; surplus = refl; sized = refl; fault = λ h. simp (or_assoc, fault-else); alone = refl }
+bulk-receiving-status from caps id x body = record { small = lit< tt; kind = refl; surplus = refl; sized = refl; fault = λ h. simp fault-step; alone = refl }
 
 -- ---- the kinds with data
 
 pub control : (from : Side) (caps id : ℕ) (x : ControlFields) (body : List ℕ)
     → Finds from caps id (Control x) body
     (findings 28 false (eqb (length (in_part x.payload body)) (cond (onward from x.endpoint.0) x.length 0))
-    (cond (address_ok x.endpoint.0) (cond (eqb (x.requesttype / 128) (x.endpoint.0 / 128)) None (At 2)) (At 0)) false)
+    (cond (address_ok x.endpoint.0) (cond (eqb (x.requesttype / 128) (x.endpoint.0 / 128)) None (Some 2)) (Some 0)) false)
 unfolding kinds layout content_of bad
-control from caps id x body = record { small = lit< tt; kind = refl; surplus = refl; sized = simp add-zero; fault = λ h. simp (or_assoc, fault-else); alone = refl }
+control from caps id x body = record { small = lit< tt; kind = refl; surplus = refl; sized = simp add-zero; fault = λ h. simp fault-step; alone = refl }
 
 pub iso : (from : Side) (caps id : ℕ) (x : IsoFields) (body : List ℕ)
     → Finds from caps id (Iso x) body
     (findings 30 false (eqb (length (in_part x.payload body)) x.length)
-    (cond (address_ok x.endpoint.0 && onward from x.endpoint.0) None (At 0)) false)
+    (cond (address_ok x.endpoint.0 && onward from x.endpoint.0) None (Some 0)) false)
 unfolding kinds layout content_of bad
-iso from caps id x body = record { small = lit< tt; kind = refl; surplus = refl; sized = simp add-zero; fault = λ h. simp (or_assoc, fault-else); alone = refl }
+iso from caps id x body = record { small = lit< tt; kind = refl; surplus = refl; sized = simp add-zero; fault = λ h. simp fault-step; alone = refl }
 
 pub interrupt : (from : Side) (caps id : ℕ) (x : InterruptFields) (body : List ℕ)
     → Finds from caps id (Interrupt x) body
     (findings 31 false (eqb (length (in_part x.payload body)) (cond (onward from x.endpoint.0) x.length 0))
-    (cond (address_ok x.endpoint.0 && (not (is_guest from) || onward from x.endpoint.0)) None (At 0)) false)
+    (cond (address_ok x.endpoint.0 && (not (is_guest from) || onward from x.endpoint.0)) None (Some 0)) false)
 unfolding kinds layout content_of bad
-interrupt from caps id x body = record { small = lit< tt; kind = refl; surplus = refl; sized = simp add-zero; fault = λ h. simp (or_assoc, fault-else); alone = refl }
+interrupt from caps id x body = record { small = lit< tt; kind = refl; surplus = refl; sized = simp add-zero; fault = λ h. simp fault-step; alone = refl }
 
 pub buffered-bulk : (from : Side) (caps id : ℕ) (x : BufferedBulkFields) (body : List ℕ)
     → Finds from caps id (BufferedBulk x) body
     (findings 32 false (eqb (length (in_part x.payload body)) x.length)
-    (cond (address_ok x.endpoint.0 && eqb (x.endpoint.0 / 128) 1) None (At 8)) false)
+    (cond (address_ok x.endpoint.0 && eqb (x.endpoint.0 / 128) 1) None (Some 8)) false)
 unfolding kinds layout content_of bad
-buffered-bulk from caps id x body = record { small = lit< tt; kind = refl; surplus = refl; sized = simp add-zero; fault = λ h. simp (or_assoc, fault-else); alone = refl }
+buffered-bulk from caps id x body = record { small = lit< tt; kind = refl; surplus = refl; sized = simp add-zero; fault = λ h. simp fault-step; alone = refl }
 
 -- the count of a bulk packet from its two parts
 count-back : (b : Bool) (n : ℕ) → (b ≡ false → n < 65536) → n % 65536 + 65536 * cond b (n / 65536) 0 ≡ n
@@ -204,7 +196,7 @@ count-back false n h = let l : n < 65536 = h refl in omega arith
 pub bulk : (from : Side) (caps id : ℕ) (x : BulkFields) (body : List ℕ)
     → Finds from caps id (Bulk x) body
     (findings 29 (not (has_bit caps 6) && ltb 65535 x.length) (eqb (length (in_part x.payload body)) (cond (onward from x.endpoint.0) x.length 0))
-    (cond (address_ok x.endpoint.0) (cond (has_bit caps 0 || eqb x.stream 0) None (At 4)) (At 0)) false)
+    (cond (address_ok x.endpoint.0) (cond (has_bit caps 0 || eqb x.stream 0) None (Some 4)) (Some 0)) false)
 unfolding kinds layout content_of bad
 bulk from caps id x body =
     let n : ℕ = x.length in
@@ -217,7 +209,7 @@ bulk from caps id x body =
       sized = cases b
           (λ t. let c : n % 65536 + 65536 * (n / 65536) ≡ n = count-back true n (λ f. small (absurd (false≢true (sym f)))) in simp (t, c))
           (λ t. let c : n % 65536 + 0 ≡ n = count-back false n (λ f. small t) in simp (t, c));
-      fault = λ h. cases (has_bit caps 6) (λ t. simp (t, or_assoc, fault-else)) (λ t. cases (ltb 65535 n) (λ u. simp (t, u, or_assoc, fault-else)) (λ u. simp (t, u, or_assoc, fault-else)));
+      fault = λ h. cases (has_bit caps 6) (λ t. simp (t, fault-step)) (λ t. cases (ltb 65535 n) (λ u. simp (t, u, fault-step)) (λ u. simp (t, u, fault-step)));
       alone = refl;
     }
 
@@ -226,37 +218,37 @@ bulk from caps id x body =
 pub filter : (from : Side) (caps id : ℕ) (x : FilterFields) (body : List ℕ)
     → Finds from caps id (Filter x) body
     (findings 23 false (leb 1 (length (in_part x.string body)))
-    (cond (eqb (zero_at (in_part x.string body) + 1) (length (in_part x.string body))) (no_id id) (At 0)) false)
+    (cond (eqb (zero_at (in_part x.string body) + 1) (length (in_part x.string body))) (no_id id) (Some 0)) false)
 unfolding kinds layout content_of bad
-filter from caps id x body = record { small = lit< tt; kind = refl; surplus = refl; sized = refl; fault = λ h. simp (fault-else, fault-last); alone = refl }
+filter from caps id x body = record { small = lit< tt; kind = refl; surplus = refl; sized = refl; fault = λ h. simp fault-step; alone = refl }
 
 pub connect : (from : Side) (caps id : ℕ) (x : ConnectFields) (body : List ℕ)
     → Finds from caps id (Connect x) body
-    (findings 1 (is_given x.version && not (has_bit caps 1)) true
-    (cond (leb x.speed 3 || eqb x.speed 255) (cond (is_given x.version || not (has_bit caps 1)) (no_id id) (At 8)) (At 0)) false)
+    (findings 1 (is_some x.version && not (has_bit caps 1)) true
+    (cond (leb x.speed 3 || eqb x.speed 255) (cond (is_some x.version || not (has_bit caps 1)) (no_id id) (Some 8)) (Some 0)) false)
 unfolding kinds layout content_of bad
 connect from caps id x body = go x.version
   where
-    go : (v : Optional16)
+    go : (v : Option ℕ)
         → Finds from caps id (Connect (record { speed = x.speed; class = x.class; subclass = x.subclass; protocol = x.protocol; vendor = x.vendor; product = x.product; version = v })) body
-        (findings 1 (is_given v && not (has_bit caps 1)) true
-        (cond (leb x.speed 3 || eqb x.speed 255) (cond (is_given v || not (has_bit caps 1)) (no_id id) (At 8)) (At 0)) false)
-    go Absent =
+        (findings 1 (is_some v && not (has_bit caps 1)) true
+        (cond (leb x.speed 3 || eqb x.speed 255) (cond (is_some v || not (has_bit caps 1)) (no_id id) (Some 8)) (Some 0)) false)
+    go None =
         record {
           small = lit< tt;
           kind = refl;
           surplus = refl;
           sized = refl;
-          fault = λ h. cases (has_bit caps 1) (λ e. simp (e, or_assoc, fault-else)) (λ e. simp (e, or_assoc, fault-else, fault-last));
+          fault = λ h. cases (has_bit caps 1) (λ e. simp (e, fault-step)) (λ e. simp (e, fault-step));
           alone = refl;
         }
-    go (Present n) =
+    go (Some n) =
         record {
           small = lit< tt;
           kind = refl;
           surplus = sym (or-false (not (has_bit caps 1)));
           sized = refl;
-          fault = λ h. simp (or_assoc, fault-else, fault-last);
+          fault = λ h. simp fault-step;
           alone = refl;
         }
 
@@ -274,7 +266,7 @@ rows-there n s t = rw t
 
 pub interface-table : (from : Side) (caps id : ℕ) (x : InterfaceTableFields) (body : List ℕ)
     → Finds from caps id (InterfaceTable x) body
-    (findings 4 false (eqb (length (in_part x.rows body)) 128) (cond (leb x.count 32) (no_id id) (At 0)) false)
+    (findings 4 false (eqb (length (in_part x.rows body)) 128) (cond (leb x.count 32) (no_id id) (Some 0)) false)
 unfolding kinds layout content_of bad
 interface-table from caps id x body =
     record {
@@ -282,7 +274,7 @@ interface-table from caps id x body =
       kind = refl;
       surplus = refl;
       sized = sym (rw (rows-complete (λ b. true) (drop 1 (kind_at 4).fields) (in_part x.rows body) (lit< tt)) (and-true _));
-      fault = λ h. simp (or_assoc, fault-else, fault-last);
+      fault = λ h. simp fault-step;
       alone = refl;
     }
 
@@ -299,7 +291,7 @@ pub hello : (from : Side) (caps id : ℕ) (x : HelloFields) (body : List ℕ)
     → Finds from caps id (Hello x) body
     (findings 0 false
     (eqb (length (in_part x.version body)) 64 && (leb (length (in_part x.words body)) 32 && eqb (length (in_part x.words body) % 4) 0))
-    (cond (ltb (zero_at (in_part x.version body)) 64) (no_id id) (At 0))
+    (cond (ltb (zero_at (in_part x.version body)) 64) (no_id id) (Some 0))
     (has_bit (le 4 (in_part x.words body) 0) 0 && not (has_bit (le 4 (in_part x.words body) 0) 4)))
 unfolding kinds layout content_of bad
 hello from caps id x body =
@@ -313,43 +305,39 @@ hello from caps id x body =
           let t : eqb (length v) 64 ≡ true = (and_parts (eqb (length v) 64) _ h).0 in
           let e : length v ≡ 64 = eqb-true (length v) 64 t in
           let l : leb 64 (length v) ≡ true = le-leb 64 (length v) (omega (arith, e)) in
-          rw (← zero_in 64 v) (cases (ltb (zero_at (numbers 1 64 v 0)) 64) (λ u. simp (t, l, u, fault-last)) (λ u. simp (t, l, u)));
+          rw (← zero_in 64 v) (cases (ltb (zero_at (numbers 1 64 v 0)) 64) (λ u. simp (t, l, u)) (λ u. simp (t, l, u)));
       alone = refl;
     }
 
 -- ---- an endpoint table's rows
 
-fault-step : (b : Bool) (x : Option ℕ) (a : ℕ) (y : Option ℕ) → fault_of (or_else (cond b x (some a)) y) ≡ cond b (fault_of (or_else x y)) (At a)
-fault-step true x a y = refl
-fault-step false x a y = refl
-
-abbrev first_fault : (ℕ → Bool) → ℕ → ℕ → Fault → Fault
+abbrev first_fault : (ℕ → Bool) → ℕ → ℕ → Option ℕ → Option ℕ
 first_fault ok zero i next = next
-first_fault ok (suc n) i next = cond (ok i) (first_fault ok n (suc i) next) (At i)
+first_fault ok (suc n) i next = cond (ok i) (first_fault ok n (suc i) next) (Some i)
 
 -- numbers of one byte each: a number's place is its index
-fault-first : (ok : ℕ → Bool) (n i : ℕ) (y : Option ℕ) → fault_of (or_else (first_bad ok 1 n i i) y) ≡ first_fault ok n i (fault_of y)
+fault-first : (ok : ℕ → Bool) (n i : ℕ) (y : Option ℕ) → (or_else (first_bad ok 1 n i i) y) ≡ first_fault ok n i y
 fault-first ok zero i y = refl
 fault-first ok (suc n) i y =
     fault-step (ok i) (first_bad ok 1 n (suc i) (i + 1)) i y
-    ∙ ap (λ (m : ℕ). cond (ok i) (fault_of (or_else (first_bad ok 1 n (suc i) m) y)) (At i)) (add-one i)
-    ∙ ap (λ (z : Fault). cond (ok i) z (At i)) (fault-first ok n (suc i) y)
+    ∙ ap (λ (m : ℕ). cond (ok i) ((or_else (first_bad ok 1 n (suc i) m) y)) (Some i)) (add-one i)
+    ∙ ap (λ (z : Option ℕ). cond (ok i) z (Some i)) (fault-first ok n (suc i) y)
 
 -- what is missing behind the rows: max packet at 96, max streams at 160
 missing : (caps id : ℕ) (p s : Bool) → Option ℕ
 missing caps id p s =
-    or_else (cond p none (cond (has_bit caps 4) (some 96) none))
-    (or_else (cond s none (cond (has_bit caps 4 && has_bit caps 0) (some (96 + cond (has_bit caps 4) 64 0)) none)) (cond (eqb id 0) none (some 65535)))
+    or_else (cond p None (cond (has_bit caps 4) (Some 96) None))
+    (or_else (cond s None (cond (has_bit caps 4 && has_bit caps 0) (Some (96 + cond (has_bit caps 4) 64 0)) None)) (cond (eqb id 0) None (Some 65535)))
 
 missing-fault : (caps id : ℕ) (p s : Bool)
-    → fault_of (missing caps id p s) ≡ cond (p || not (has_bit caps 4)) (cond (s || not (has_bit caps 4 && has_bit caps 0)) (no_id id) (At 160)) (At 96)
+    → (missing caps id p s) ≡ cond (p || not (has_bit caps 4)) (cond (s || not (has_bit caps 4 && has_bit caps 0)) (no_id id) (Some 160)) (Some 96)
 unfolding missing
-missing-fault caps id true true = fault-last (eqb id 0) 65535
+missing-fault caps id true true = refl
 missing-fault caps id true false = cases (has_bit caps 4)
-    (λ t. cases (has_bit caps 0) (λ u. simp (t, u)) (λ u. simp (t, u, fault-last)))
-    (λ t. simp (t, fault-last))
-missing-fault caps id false true = cases (has_bit caps 4) (λ t. simp t) (λ t. simp (t, fault-last))
-missing-fault caps id false false = cases (has_bit caps 4) (λ t. simp t) (λ t. simp (t, fault-last))
+    (λ t. cases (has_bit caps 0) (λ u. simp (t, u)) (λ u. simp (t, u)))
+    (λ t. simp (t))
+missing-fault caps id false true = cases (has_bit caps 4) (λ t. simp t) (λ t. simp (t))
+missing-fault caps id false false = cases (has_bit caps 4) (λ t. simp t) (λ t. simp (t))
 
 -- the types are there where the table is
 types-there : (n : ℕ) (rows : List ℕ) → 32 ≤ n → eqb (length rows) n ≡ true → leb 32 (length rows) ≡ true
@@ -394,8 +382,8 @@ module _ (from : Side) (caps id : ℕ) (part : Part) (body : List ℕ) where
       λ i. record { kind = 5; id = id; fields = split (columns_of p s) (layout 5) (e i); rest = in_part no_part body }
 
   table-first : (p s : Bool) → leb 32 (length (in_part part body)) ≡ true
-      → fault_of (bad from caps (kind_at 5) (table_content p s))
-      ≡ fault_of (or_else (first_bad (holds endpoint-type from caps 0 (numbers 1 32 (in_part part body) 0)) 1 32 0 0) (missing caps id p s))
+      → (bad from caps (kind_at 5) (table_content p s))
+      ≡ (or_else (first_bad (holds endpoint-type from caps 0 (numbers 1 32 (in_part part body) 0)) 1 32 0 0) (missing caps id p s))
   unfolding kinds layout bad missing
   table-first true true t = simp (t, or_assoc)
   table-first true false t = simp (t, or_assoc)
@@ -409,19 +397,19 @@ module _ (from : Side) (caps id : ℕ) (part : Part) (body : List ℕ) where
   types-are-there false false t = types-there 96 (in_part part body) (lit≤ tt) t
 
   table-fault : (p s : Bool) → eqb (length (in_part part body)) (table_size p s) ≡ true
-      → type_fault (in_part part body) 32 0 (cond (p || not (has_bit caps 4)) (cond (s || not (has_bit caps 4 && has_bit caps 0)) (no_id id) (At 160)) (At 96))
-      ≡ fault_of (bad from caps (kind_at 5) (content_of caps id (EndpointTable (endpoint_table part p s)) body))
+      → type_fault (in_part part body) 32 0 (cond (p || not (has_bit caps 4)) (cond (s || not (has_bit caps 4 && has_bit caps 0)) (no_id id) (Some 160)) (Some 96))
+      ≡ (bad from caps (kind_at 5) (content_of caps id (EndpointTable (endpoint_table part p s)) body))
   table-fault p s h =
       let ok : ℕ → Bool = holds endpoint-type from caps 0 (numbers 1 32 (in_part part body) 0) in
       ap (first_fault ok 32 0) (sym (missing-fault caps id p s)) ∙ sym (fault-first ok 32 0 (missing caps id p s)) ∙ sym (table-first p s (types-are-there p s h))
-      ∙ ap (λ (q : Content). fault_of (bad from caps (kind_at 5) q)) (sym (table-content p s h))
+      ∙ ap (λ (q : Content). (bad from caps (kind_at 5) q)) (sym (table-content p s h))
 
 pub endpoint_table_packet : (from : Side) (caps id : ℕ) (x : EndpointTableFields) (body : List ℕ)
     → Finds from caps id (EndpointTable x) body
     (findings 5 ((x.maxpacket && not (has_bit caps 4)) || (x.maxstreams && not (has_bit caps 4 && has_bit caps 0)))
     (eqb (length (in_part x.rows body)) (table_size x.maxpacket x.maxstreams))
     (type_fault (in_part x.rows body) 32 0
-    (cond (x.maxpacket || not (has_bit caps 4)) (cond (x.maxstreams || not (has_bit caps 4 && has_bit caps 0)) (no_id id) (At 160)) (At 96))) false)
+    (cond (x.maxpacket || not (has_bit caps 4)) (cond (x.maxstreams || not (has_bit caps 4 && has_bit caps 0)) (no_id id) (Some 160)) (Some 96))) false)
 endpoint_table_packet from caps id x body =
     record {
       small = lit< tt;

@@ -2,11 +2,11 @@
 -- Both are `in_order` of five tests, and `Finds` makes each test of the content that of the findings. The rules are found only where the size is
 -- right; where it is not, 23 holds, and 24 and 13 behind it are not asked.
 -- Assumes nothing.
+use Rattle.std.specs.Prelude.{Option, Some, None, is_some}
 use Prim.Native.Nat.{ℕ, ◌^◌, ◌<◌}
 use mathlib.Core.Path.{◌≡◌, refl, sym, ap, ◌∙◌}
 use mathlib.Core.Bool.{Bool, true, false, cond, not, ◌&&◌, ◌||◌}
 use mathlib.Core.List.{List}
-use mathlib.Core.Option.{Option, none, some}
 use lib.Dec.{eqb, leb}
 use Rattle.octets.specs.Bits.{has_bit}
 use Rattle.header.specs.declared.Link.{Link}
@@ -19,11 +19,11 @@ use Rattle.kinds.specs.Slots.{found, only-hello}
 use Rattle.packet.specs.declared.Packet.{Packet}
 use Rattle.packet.specs.Packet.{content_of}
 use Rattle.rules.specs.declared.Findings.{Findings}
-use Rattle.rules.specs.Findings.{Finds, fault_of, is_fault}
+use Rattle.rules.specs.Findings.{Finds}
 
-none-bad : (o : Option ℕ) → not (is_none o) ≡ is_fault (fault_of o)
-none-bad none = refl
-none-bad (some a) = refl
+none-bad : (o : Option ℕ) → not (is_none o) ≡ is_some o
+none-bad None = refl
+none-bad (Some a) = refl
 
 -- the number by the slot, the id and the findings
 abbrev pub number_by : Link → ℕ → ℕ → Findings → ℕ
@@ -31,7 +31,7 @@ number_by l slot id f =
     in_order (not (sends (kind_at slot).sender l.sender))
     (not (shared (shared_set l) (kind_at slot).needs) || f.surplus || (not (eqb slot 0) && not (has_bit (shared_set l) 5) && leb 4294967296 id))
     (not f.sized)
-    (is_fault f.fault)
+    (is_some f.fault)
     f.alone
 
 pub number : (l : Link) (id : ℕ) (p : Packet) (body : List ℕ) (f : Findings) → id < 256 ^ 8 → Finds l.sender (shared_set l) id p body f
@@ -48,7 +48,7 @@ number l id p body f small s = ap (λ (o : Option Kind). by_kind l o q) known �
     k : Kind
     k = kind_at f.slot
 
-    known : find q.kind kinds ≡ some k
+    known : find q.kind kinds ≡ Some k
     known = ap (λ (m : ℕ). find m kinds) (sym s.kind) ∙ found f.slot s.small
 
     hello : eqb q.kind 0 ≡ eqb f.slot 0
@@ -61,7 +61,7 @@ number l id p body f small s = ap (λ (o : Option Kind). by_kind l o q) known �
 
     go : (t : Bool) → f.sized ≡ t → kind_number l k q ≡ number_by l f.slot id f
     go true t =
-        let kept : not (is_none (bad l.sender caps k q)) ≡ is_fault f.fault = none-bad (bad l.sender caps k q) ∙ ap is_fault (sym (s.fault t)) in
+        let kept : not (is_none (bad l.sender caps k q)) ≡ is_some f.fault = none-bad (bad l.sender caps k q) ∙ ap is_some (sym (s.fault t)) in
         λ i. in_order (not (sends k.sender l.sender)) (not (shared caps k.needs) || sym s.surplus i || wide i) (not (sym s.sized i)) (kept i) (sym s.alone i)
     go false t =
         (λ i. in_order (not (sends k.sender l.sender)) (not (shared caps k.needs) || sym s.surplus i || wide i) (not (sym s.sized i))

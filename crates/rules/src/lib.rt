@@ -1,33 +1,27 @@
-// The wire checks 21 to 24 and 13 of one packet with its body: what each kind's rules say of its fields, and the number.
+// The wire checks 21 to 24 and 13 of one packet with its body: what each kind's rules say of its fields, and the
+// number.
 #![tactic(auto)]
 
-ghost use Rattle.std.specs.Prelude.{◌≡◌, List, cond, not, ◌&&◌, ◌||◌, true, false, ℕ, ◌≤◌, ◌<◌, ◌/◌, ◌^◌, length, leb, eqb};
+ghost use Rattle.std.specs.Prelude.{◌≡◌, List, cond, not, ◌&&◌, ◌||◌, true, false, ℕ, ◌≤◌, ◌<◌, ◌/◌, ◌^◌, length, leb, eqb, is_some};
 ghost use Rattle.octets.specs.Little.{le};
 ghost use Rattle.octets.specs.Bits.{has_bit};
 ghost use Rattle.header.specs.declared.Side.{Side};
 ghost use Rattle.header.specs.Link.{shared_set};
+ghost use Rattle.header.specs.Refusal.{number_of, number_in};
 ghost use Rattle.kinds.specs.Number.{onward, address_ok, zero_at, in_order, wire_number};
 ghost use Rattle.packet.specs.declared.Packet.{Packet};
 ghost use Rattle.packet.specs.declared.Packet.TheVariants as packets;
 ghost use Rattle.packet.specs.Packet.{content_of};
-ghost use Rattle.rules.specs.declared.Fault.TheVariants.{None, At};
-ghost use Rattle.rules.specs.Findings.{Finds, findings, missized, is_fault, no_id, type_ok, type_fault};
+ghost use Rattle.rules.specs.Findings.{Finds, findings, missized, no_id, type_ok, type_fault};
 
 use endpoint::{Endpoint, is_address, is_in};
-use header::{Link, Side, is_guest, shared_set};
+use header::{Link, Refusal, Side, is_guest, shared_set};
 use kinds::{is_shared, may_send};
 use octets::{get8, get32, has_bit};
 use packet::{
     BufferedBulk, Bulk, Connect, Control, EndpointTable, Filter, Hello, InterfaceTable, Interrupt,
-    Iso, Packet, is_given, part_of, table_size,
+    Iso, Packet, part_of, table_size,
 };
-
-// Where the first field that breaks its rule starts in the body, 65,535 for the id; `None` where each keeps its own.
-#[derive(Clone, Copy)]
-enum Fault {
-    None,
-    At(u16),
-}
 
 // What the checks find of one packet under a shared set.
 #[derive(Clone, Copy)]
@@ -38,44 +32,36 @@ struct Findings {
     surplus: bool,
     // the body has the size that its kind and its fields say
     sized: bool,
-    fault: Fault,
+    // where the first field that breaks its rule starts in the body, 65,535 for the id
+    fault: Option<u16>,
     // a hello offers bit 0 without bit 4
     alone: bool,
 }
 
 // The place of a field that breaks its rule, else what comes after it.
-fn checked(ok: bool, place: u16, next: Fault) -> Fault
-    ensures { result ≡ cond ok next (At place) }
+fn checked(ok: bool, place: u16, next: Option<u16>) -> Option<u16>
+    ensures { result ≡ cond ok next (Some place) }
 {
-    if ok { next } else { Fault::At(place) }
-}
-
-fn is_fault(f: Fault) -> bool
-    ensures { result ≡ is_fault f }
-{
-    match f {
-        Fault::None => false,
-        Fault::At(_) => true,
-    }
+    if ok { next } else { Some(place) }
 }
 
 // "Id is 0 in kinds .."
-fn zero_id(id: u64) -> Fault
+fn zero_id(id: u64) -> Option<u16>
     ensures { result ≡ no_id id }
 {
-    checked(id == 0, 65535, Fault::None)
+    checked(id == 0, 65535, None)
 }
 
 // An endpoint of either direction.
-fn endpoint_at(endpoint: Endpoint, place: u16, next: Fault) -> Fault
-    ensures { result ≡ cond (address_ok endpoint.0) next (At place) }
+fn endpoint_at(endpoint: Endpoint, place: u16, next: Option<u16>) -> Option<u16>
+    ensures { result ≡ cond (address_ok endpoint.0) next (Some place) }
 {
     checked(is_address(endpoint), place, next)
 }
 
 // An endpoint that has to be IN.
-fn in_at(endpoint: Endpoint, place: u16, next: Fault) -> Fault
-    ensures { result ≡ cond (address_ok endpoint.0 && eqb (endpoint.0 / 128) 1) next (At place) }
+fn in_at(endpoint: Endpoint, place: u16, next: Option<u16>) -> Option<u16>
+    ensures { result ≡ cond (address_ok endpoint.0 && eqb (endpoint.0 / 128) 1) next (Some place) }
 {
     checked(is_address(endpoint) & is_in(endpoint), place, next)
 }
@@ -102,14 +88,7 @@ fn onward_data(from: Side, endpoint: Endpoint, length: u32) -> u32
 fn zero_at(s: &[u8]) -> usize
     ensures { (result ≡ zero_at s.now) × (result ≤ length s.now) }
 {
-    let mut i = 0;
-    while i < s.len() {
-        if s[i] == 0 {
-            return i;
-        }
-        i += 1;
-    }
-    i
+    s.iter().position(|b| *b == 0).unwrap_or(s.len())
 }
 
 // The type of row i may be t.
@@ -124,28 +103,26 @@ fn is_type(i: usize, t: u8) -> bool
 }
 
 // The first of the 32 endpoint types that is none, else what comes after them.
-fn type_at(rows: &[u8], next: Fault) -> Fault
+fn type_at(rows: &[u8], next: Option<u16>) -> Option<u16>
     ensures { result ≡ type_fault rows.now 32 0 next }
 {
-    let mut i = 0;
-    while i < 32 {
+    for i in 0..32 {
         if !is_type(i, get8(rows, i)) {
-            return Fault::At(i as u16);
+            return Some(i as u16);
         }
-        i += 1;
     }
     next
 }
 
 // A kind with fields of numbers alone.
-fn plain(slot: usize, fault: Fault) -> Findings
+fn plain(slot: usize, fault: Option<u16>) -> Findings
     ensures { result ≡ findings slot false true fault false }
 {
     judged(slot, true, fault)
 }
 
 // A kind whose size is judged.
-fn judged(slot: usize, sized: bool, fault: Fault) -> Findings
+fn judged(slot: usize, sized: bool, fault: Option<u16>) -> Findings
     ensures { result ≡ findings slot false sized fault false }
 {
     Findings {
@@ -168,10 +145,8 @@ fn offers_streams_alone(words: &[u8]) -> bool
 fn hello(id: u64, h: Hello, body: &[u8]) -> Findings
     ensures { (from : Side) (caps : ℕ) → Finds from caps id (packets.Hello h) body.now result }
 {
-    let first = h.version;
-    let second = h.words;
-    let version = part_of(body, first);
-    let words = part_of(body, second);
+    let version = part_of(body, h.version);
+    let words = part_of(body, h.words);
     let n = words.len();
     Findings {
         slot: 0,
@@ -185,9 +160,8 @@ fn hello(id: u64, h: Hello, body: &[u8]) -> Findings
 fn connect(caps: u32, id: u64, c: Connect) -> Findings
     ensures { (from : Side) (body : List ℕ) → Finds from caps id (packets.Connect c) body result }
 {
-    let version = c.version;
     let speed = c.speed;
-    let given = is_given(version);
+    let given = c.version.is_some();
     let shared = has_bit(caps, 1);
     let last = checked(given | !shared, 8, zero_id(id));
     Findings {
@@ -202,10 +176,9 @@ fn connect(caps: u32, id: u64, c: Connect) -> Findings
 fn interfaces(id: u64, t: InterfaceTable, body: &[u8]) -> Findings
     ensures { (from : Side) (caps : ℕ) → Finds from caps id (packets.InterfaceTable t) body.now result }
 {
-    let part = t.rows;
     judged(
         4,
-        part_of(body, part).len() == 128,
+        part_of(body, t.rows).len() == 128,
         checked(t.count <= 32, 0, zero_id(id)),
     )
 }
@@ -213,10 +186,9 @@ fn interfaces(id: u64, t: InterfaceTable, body: &[u8]) -> Findings
 fn endpoints(caps: u32, id: u64, t: EndpointTable, body: &[u8]) -> Findings
     ensures { (from : Side) → Finds from caps id (packets.EndpointTable t) body.now result }
 {
-    let part = t.rows;
     let packets = t.maxpacket;
     let streams = t.maxstreams;
-    let rows = part_of(body, part);
+    let rows = part_of(body, t.rows);
     let four = has_bit(caps, 4);
     let both = four & has_bit(caps, 0);
     let last = checked(
@@ -236,8 +208,7 @@ fn endpoints(caps: u32, id: u64, t: EndpointTable, body: &[u8]) -> Findings
 fn filter(id: u64, f: Filter, body: &[u8]) -> Findings
     ensures { (from : Side) (caps : ℕ) → Finds from caps id (packets.Filter f) body.now result }
 {
-    let part = f.string;
-    let text = part_of(body, part);
+    let text = part_of(body, f.string);
     let n = text.len();
     judged(23, 1 <= n, checked(zero_at(text) + 1 == n, 0, zero_id(id)))
 }
@@ -246,11 +217,10 @@ fn control(from: Side, id: u64, c: Control, body: &[u8]) -> Findings
     ensures { (caps : ℕ) → Finds from caps id (packets.Control c) body.now result }
 {
     let endpoint = c.endpoint;
-    let part = c.payload;
-    let last = checked(c.requesttype >> 7 == endpoint.0 >> 7, 2, Fault::None);
+    let last = checked(c.requesttype >> 7 == endpoint.0 >> 7, 2, None);
     judged(
         28,
-        part_of(body, part).len() == onward_data(from, endpoint, c.length as u32) as usize,
+        part_of(body, c.payload).len() == onward_data(from, endpoint, c.length as u32) as usize,
         endpoint_at(endpoint, 0, last),
     )
 }
@@ -259,13 +229,12 @@ fn bulk(from: Side, caps: u32, id: u64, b: Bulk, body: &[u8]) -> Findings
     ensures { Finds from caps id (packets.Bulk b) body.now result }
 {
     let endpoint = b.endpoint;
-    let part = b.payload;
     let length = b.length;
-    let last = checked(has_bit(caps, 0) | (b.stream == 0), 4, Fault::None);
+    let last = checked(has_bit(caps, 0) | (b.stream == 0), 4, None);
     Findings {
         slot: 29,
         surplus: !has_bit(caps, 6) & (65535 < length),
-        sized: part_of(body, part).len() == onward_data(from, endpoint, length) as usize,
+        sized: part_of(body, b.payload).len() == onward_data(from, endpoint, length) as usize,
         fault: endpoint_at(endpoint, 0, last),
         alone: false,
     }
@@ -275,12 +244,11 @@ fn iso(from: Side, id: u64, p: Iso, body: &[u8]) -> Findings
     ensures { (caps : ℕ) → Finds from caps id (packets.Iso p) body.now result }
 {
     let endpoint = p.endpoint;
-    let part = p.payload;
     let ok = is_address(endpoint) & is_onward(from, endpoint);
     judged(
         30,
-        part_of(body, part).len() == p.length as usize,
-        checked(ok, 0, Fault::None),
+        part_of(body, p.payload).len() == p.length as usize,
+        checked(ok, 0, None),
     )
 }
 
@@ -288,24 +256,21 @@ fn interrupt(from: Side, id: u64, p: Interrupt, body: &[u8]) -> Findings
     ensures { (caps : ℕ) → Finds from caps id (packets.Interrupt p) body.now result }
 {
     let endpoint = p.endpoint;
-    let part = p.payload;
     let ok = is_address(endpoint) & (!is_guest(from) | is_onward(from, endpoint));
     judged(
         31,
-        part_of(body, part).len() == onward_data(from, endpoint, p.length as u32) as usize,
-        checked(ok, 0, Fault::None),
+        part_of(body, p.payload).len() == onward_data(from, endpoint, p.length as u32) as usize,
+        checked(ok, 0, None),
     )
 }
 
 fn buffered_bulk(id: u64, p: BufferedBulk, body: &[u8]) -> Findings
     ensures { (from : Side) (caps : ℕ) → Finds from caps id (packets.BufferedBulk p) body.now result }
 {
-    let endpoint = p.endpoint;
-    let part = p.payload;
     judged(
         32,
-        part_of(body, part).len() == p.length as usize,
-        in_at(endpoint, 8, Fault::None),
+        part_of(body, p.payload).len() == p.length as usize,
+        in_at(p.endpoint, 8, None),
     )
 }
 
@@ -317,58 +282,31 @@ fn findings_of(from: Side, caps: u32, id: u64, p: Packet, body: &[u8]) -> Findin
         Packet::Hello(x) => hello(id, x, body),
         Packet::Connect(x) => connect(caps, id, x),
         Packet::Disconnect => plain(2, zero_id(id)),
-        Packet::Reset => plain(3, Fault::None),
+        Packet::Reset => plain(3, None),
         Packet::InterfaceTable(x) => interfaces(id, x, body),
         Packet::EndpointTable(x) => endpoints(caps, id, x, body),
-        Packet::SetConfiguration(_) => plain(6, Fault::None),
-        Packet::GetConfiguration => plain(7, Fault::None),
-        Packet::ConfigurationStatus(_) => plain(8, Fault::None),
-        Packet::SetAlt(_) => plain(9, Fault::None),
-        Packet::GetAlt(_) => plain(10, Fault::None),
-        Packet::AltStatus(_) => plain(11, Fault::None),
-        Packet::StartIso(x) => {
-            let endpoint = x.endpoint;
-            plain(12, endpoint_at(endpoint, 0, Fault::None))
-        }
-        Packet::StopIso(x) => {
-            let endpoint = x.endpoint;
-            plain(13, endpoint_at(endpoint, 0, Fault::None))
-        }
-        Packet::IsoStatus(x) => {
-            let endpoint = x.endpoint;
-            plain(14, endpoint_at(endpoint, 1, Fault::None))
-        }
-        Packet::StartInterrupt(x) => {
-            let endpoint = x.endpoint;
-            plain(15, in_at(endpoint, 0, Fault::None))
-        }
-        Packet::StopInterrupt(x) => {
-            let endpoint = x.endpoint;
-            plain(16, in_at(endpoint, 0, Fault::None))
-        }
-        Packet::InterruptStatus(x) => {
-            let endpoint = x.endpoint;
-            plain(17, endpoint_at(endpoint, 1, Fault::None))
-        }
-        Packet::AllocStreams(x) => plain(18, checked(x.mask != 0, 0, Fault::None)),
-        Packet::FreeStreams(x) => plain(19, checked(x.mask != 0, 0, Fault::None)),
-        Packet::StreamsStatus(_) => plain(20, Fault::None),
-        Packet::Cancel => plain(21, Fault::None),
+        Packet::SetConfiguration(_) => plain(6, None),
+        Packet::GetConfiguration => plain(7, None),
+        Packet::ConfigurationStatus(_) => plain(8, None),
+        Packet::SetAlt(_) => plain(9, None),
+        Packet::GetAlt(_) => plain(10, None),
+        Packet::AltStatus(_) => plain(11, None),
+        Packet::StartIso(x) => plain(12, endpoint_at(x.endpoint, 0, None)),
+        Packet::StopIso(x) => plain(13, endpoint_at(x.endpoint, 0, None)),
+        Packet::IsoStatus(x) => plain(14, endpoint_at(x.endpoint, 1, None)),
+        Packet::StartInterrupt(x) => plain(15, in_at(x.endpoint, 0, None)),
+        Packet::StopInterrupt(x) => plain(16, in_at(x.endpoint, 0, None)),
+        Packet::InterruptStatus(x) => plain(17, endpoint_at(x.endpoint, 1, None)),
+        Packet::AllocStreams(x) => plain(18, checked(x.mask != 0, 0, None)),
+        Packet::FreeStreams(x) => plain(19, checked(x.mask != 0, 0, None)),
+        Packet::StreamsStatus(_) => plain(20, None),
+        Packet::Cancel => plain(21, None),
         Packet::FilterReject => plain(22, zero_id(id)),
         Packet::Filter(x) => filter(id, x, body),
         Packet::DisconnectAck => plain(24, zero_id(id)),
-        Packet::StartBulkReceiving(x) => {
-            let endpoint = x.endpoint;
-            plain(25, in_at(endpoint, 8, Fault::None))
-        }
-        Packet::StopBulkReceiving(x) => {
-            let endpoint = x.endpoint;
-            plain(26, in_at(endpoint, 4, Fault::None))
-        }
-        Packet::BulkReceivingStatus(x) => {
-            let endpoint = x.endpoint;
-            plain(27, in_at(endpoint, 4, Fault::None))
-        }
+        Packet::StartBulkReceiving(x) => plain(25, in_at(x.endpoint, 8, None)),
+        Packet::StopBulkReceiving(x) => plain(26, in_at(x.endpoint, 4, None)),
+        Packet::BulkReceivingStatus(x) => plain(27, in_at(x.endpoint, 4, None)),
         Packet::Control(x) => control(from, id, x, body),
         Packet::Bulk(x) => bulk(from, caps, id, x, body),
         Packet::Iso(x) => iso(from, id, x, body),
@@ -385,97 +323,97 @@ fn is_wide(slot: usize, caps: u32, id: u64) -> bool
 }
 
 // The first of 21 to 24 that holds, then 13.
-fn in_order(missent: bool, unshared: bool, missized: bool, broken: bool, alone: bool) -> u8
-    ensures { result ≡ in_order missent unshared missized broken alone }
+fn in_order(
+    missent: bool,
+    unshared: bool,
+    missized: bool,
+    broken: bool,
+    alone: bool,
+) -> Result<(), Refusal>
+    ensures { number_in result ≡ in_order missent unshared missized broken alone }
 {
     if missent {
-        return 21;
+        return Err(Refusal::WrongSender);
     }
     if unshared {
-        return 22;
+        return Err(Refusal::NotShared);
     }
     if missized {
-        return 23;
+        return Err(Refusal::WrongSize);
     }
     if broken {
-        return 24;
+        return Err(Refusal::BadField);
     }
-    if alone { 13 } else { 0 }
+    if alone {
+        return Err(Refusal::StreamsAlone);
+    }
+    Ok(())
 }
 
-// The number of a body that does not have its kind's size: 23, or one of 21 and 22, which the kind and the id decide. It also says that the id
-// is below 2 to the 64th.
-pub fn size_number(l: Link, slot: usize, id: u64) -> u8
-    ensures { (result ≡ missized l slot id) × (id < 256 ^ 8) }
+// Why a body that does not have its kind's size is refused: 23, or one of 21 and 22, which the kind and the id
+// decide. It also says that the id is below 2 to the 64th.
+pub fn wrong_size(l: Link, slot: usize, id: u64) -> Refusal
+    ensures { (number_of result ≡ missized l slot id) × (id < 256 ^ 8) }
 {
+    if !may_send(slot, l.sender) {
+        return Refusal::WrongSender;
+    }
     let caps = shared_set(l);
-    let from = l.sender;
-    in_order(
-        !may_send(slot, from),
-        !is_shared(slot, caps) | is_wide(slot, caps, id),
-        true,
-        false,
-        false,
-    )
+    if !is_shared(slot, caps) | is_wide(slot, caps, id) {
+        return Refusal::NotShared;
+    }
+    Refusal::WrongSize
 }
 
-// The number of a packet of which that was found.
-fn number_by(l: Link, id: u64, f: Findings) -> u8
-    ensures { (p : Packet) (body : List ℕ) → Finds l.sender (shared_set l) id p body f → result ≡ wire_number l (content_of (shared_set l) id p body) }
+// The check of a packet of which that was found.
+fn check_found(l: Link, id: u64, f: Findings) -> Result<(), Refusal>
+    ensures { (p : Packet) (body : List ℕ) → Finds l.sender (shared_set l) id p body f → number_in result ≡ wire_number l (content_of (shared_set l) id p body) }
 {
-    let from = l.sender;
     let caps = shared_set(l);
-    let slot = f.slot;
-    let fault = f.fault;
     in_order(
-        !may_send(slot, from),
-        !is_shared(slot, caps) | f.surplus | is_wide(slot, caps, id),
+        !may_send(f.slot, l.sender),
+        !is_shared(f.slot, caps) | f.surplus | is_wide(f.slot, caps, id),
         !f.sized,
-        is_fault(fault),
+        f.fault.is_some(),
         f.alone,
     )
 }
 
-// What `wire_number` says of each kind with data, whose packet is known to be of that kind.
-pub fn control_number(l: Link, id: u64, c: Control, body: &[u8]) -> u8
-    ensures { result ≡ wire_number l (content_of (shared_set l) id (packets.Control c) body.now) }
+// What `check_wire` says of each kind with data, whose packet is known to be of that kind.
+pub fn check_control(l: Link, id: u64, c: Control, body: &[u8]) -> Result<(), Refusal>
+    ensures { number_in result ≡ wire_number l (content_of (shared_set l) id (packets.Control c) body.now) }
 {
-    let from = l.sender;
-    number_by(l, id, control(from, id, c, body))
+    check_found(l, id, control(l.sender, id, c, body))
 }
 
-pub fn bulk_number(l: Link, id: u64, b: Bulk, body: &[u8]) -> u8
-    ensures { result ≡ wire_number l (content_of (shared_set l) id (packets.Bulk b) body.now) }
+pub fn check_bulk(l: Link, id: u64, b: Bulk, body: &[u8]) -> Result<(), Refusal>
+    ensures { number_in result ≡ wire_number l (content_of (shared_set l) id (packets.Bulk b) body.now) }
 {
-    let from = l.sender;
-    number_by(l, id, bulk(from, shared_set(l), id, b, body))
+    check_found(l, id, bulk(l.sender, shared_set(l), id, b, body))
 }
 
-pub fn iso_number(l: Link, id: u64, p: Iso, body: &[u8]) -> u8
-    ensures { result ≡ wire_number l (content_of (shared_set l) id (packets.Iso p) body.now) }
+pub fn check_iso(l: Link, id: u64, p: Iso, body: &[u8]) -> Result<(), Refusal>
+    ensures { number_in result ≡ wire_number l (content_of (shared_set l) id (packets.Iso p) body.now) }
 {
-    let from = l.sender;
-    number_by(l, id, iso(from, id, p, body))
+    check_found(l, id, iso(l.sender, id, p, body))
 }
 
-pub fn interrupt_number(l: Link, id: u64, p: Interrupt, body: &[u8]) -> u8
-    ensures { result ≡ wire_number l (content_of (shared_set l) id (packets.Interrupt p) body.now) }
+pub fn check_interrupt(l: Link, id: u64, p: Interrupt, body: &[u8]) -> Result<(), Refusal>
+    ensures { number_in result ≡ wire_number l (content_of (shared_set l) id (packets.Interrupt p) body.now) }
 {
-    let from = l.sender;
-    number_by(l, id, interrupt(from, id, p, body))
+    check_found(l, id, interrupt(l.sender, id, p, body))
 }
 
-pub fn buffered_number(l: Link, id: u64, p: BufferedBulk, body: &[u8]) -> u8
-    ensures { result ≡ wire_number l (content_of (shared_set l) id (packets.BufferedBulk p) body.now) }
+pub fn check_buffered(l: Link, id: u64, p: BufferedBulk, body: &[u8]) -> Result<(), Refusal>
+    ensures { number_in result ≡ wire_number l (content_of (shared_set l) id (packets.BufferedBulk p) body.now) }
 {
-    number_by(l, id, buffered_bulk(id, p, body))
+    check_found(l, id, buffered_bulk(id, p, body))
 }
 
-// The wire checks of a packet with its body, for reader and writer alike; a `Packet` is of a known kind, so 20 is not among them.
-pub fn wire_number(l: Link, id: u64, p: Packet, body: &[u8]) -> u8
-    ensures { result ≡ wire_number l (content_of (shared_set l) id p body.now) }
+// The wire checks of a packet with its body, for reader and writer alike; a `Packet` is of a known kind, so 20 is
+// not among them.
+pub fn check_wire(l: Link, id: u64, p: Packet, body: &[u8]) -> Result<(), Refusal>
+    ensures { number_in result ≡ wire_number l (content_of (shared_set l) id p body.now) }
 {
-    let from = l.sender;
-    let caps = shared_set(l);
-    number_by(l, id, findings_of(from, caps, id, p, body))
+    check_found(l, id, findings_of(l.sender, shared_set(l), id, p, body))
 }

@@ -3,11 +3,12 @@
 -- By induction over the list: the test of the first element decides a step, and the index goes up by one with each element. A search that counts
 -- from k finds its index with k added (`first-from`).
 -- Assumes nothing.
+use Rattle.std.specs.Prelude.{Option, Some, None}
 use Prim.Native.Nat.{ℕ, zero, suc, ◌+◌, ◌≤◌, ◌<◌}
 use mathlib.Core.Path.{◌≡◌, refl, sym, ap, ◌∙◌}
 use mathlib.Core.Bool.{Bool, true, false, cond, true≢false, or-true}
 use mathlib.Core.List.{List, [], ◌∷◌}
-use mathlib.Core.Option.{Option, none, some, some-injective, none-ne-some, some-ne-none}
+use Rattle.std.proofs.lemmas.Option.{none-some, same_Some}
 use native.Mathlib.Nat.{add-zero, zero-add, add-suc, suc-add}
 use native.Mathlib.Omega.{arith}
 use lib.ListN.{length, get_or, set, length-set, get_or-eq_default}
@@ -33,59 +34,59 @@ module _ {A : Type 0} (p : A → Bool) where
       before zero h = e
       before (suc j) h = f.2 j (omega arith)
 
-  first-from : (k : ℕ) (l : List A) (i : ℕ) (d : A) → first_at p k l ≡ some i → (n : ℕ) × (k + n ≡ i) × First l d n
+  first-from : (k : ℕ) (l : List A) (i : ℕ) (d : A) → first_at p k l ≡ Some i → (n : ℕ) × (k + n ≡ i) × First l d n
   unfolding first_at
-  first-from k [] i d e = absurd (none-ne-some i e)
+  first-from k [] i d e = absurd (none-some i e)
   first-from k (x ∷ xs) i d e = go (p x) refl (first-from (suc k) xs i d) e
     where
-      go : (b : Bool) → p x ≡ b → (first_at p (suc k) xs ≡ some i → (n : ℕ) × (suc k + n ≡ i) × First xs d n)
-          → cond b (some k) (first_at p (suc k) xs) ≡ some i → (n : ℕ) × (k + n ≡ i) × First (x ∷ xs) d n
-      go true t ih q = (0, add-zero k ∙ some-injective k i q, (omega arith, t, λ j h. absurd (omega arith)))
+      go : (b : Bool) → p x ≡ b → (first_at p (suc k) xs ≡ Some i → (n : ℕ) × (suc k + n ≡ i) × First xs d n)
+          → cond b (Some k) (first_at p (suc k) xs) ≡ Some i → (n : ℕ) × (k + n ≡ i) × First (x ∷ xs) d n
+      go true t ih q = (0, add-zero k ∙ same_Some k i q, (omega arith, t, λ j h. absurd (omega arith)))
       go false t ih q = let r = ih q in (suc r.0, omega (arith, r.1), first-behind x xs d r.0 t r.2)
 
-  absent-from : (k : ℕ) (l : List A) (d : A) → first_at p k l ≡ none → (j : ℕ) → j < length l → p (get_or l j d) ≡ false
+  absent-from : (k : ℕ) (l : List A) (d : A) → first_at p k l ≡ None → (j : ℕ) → j < length l → p (get_or l j d) ≡ false
   unfolding first_at
   absent-from k [] d e j h = absurd (omega arith)
   absent-from k (x ∷ xs) d e j h = go (p x) refl (absent-from (suc k) xs d) e j h
     where
-      go : (b : Bool) → p x ≡ b → (first_at p (suc k) xs ≡ none → (j : ℕ) → j < length xs → p (get_or xs j d) ≡ false)
-          → cond b (some k) (first_at p (suc k) xs) ≡ none → (j : ℕ) → j < length (x ∷ xs) → p (get_or (x ∷ xs) j d) ≡ false
-      go true t ih q j h = absurd (some-ne-none k q)
+      go : (b : Bool) → p x ≡ b → (first_at p (suc k) xs ≡ None → (j : ℕ) → j < length xs → p (get_or xs j d) ≡ false)
+          → cond b (Some k) (first_at p (suc k) xs) ≡ None → (j : ℕ) → j < length (x ∷ xs) → p (get_or (x ∷ xs) j d) ≡ false
+      go true t ih q j h = absurd (none-some k (sym q))
       go false t ih q zero h = t
       go false t ih q (suc j) h = ih q j (omega arith)
 
   module _ (l : List A) where
-    first-is : (i : ℕ) (d : A) → first_at p 0 l ≡ some i → First l d i
+    first-is : (i : ℕ) (d : A) → first_at p 0 l ≡ Some i → First l d i
     first-is i d e = let r = first-from 0 l i d e in rw (← (sym (zero-add r.0) ∙ r.1)) r.2
 
     -- what is found stands in the list and passes
-    pub first_found : (i : ℕ) (d : A) → first_at p 0 l ≡ some i → (i < length l) × (p (get_or l i d) ≡ true)
+    pub first_found : (i : ℕ) (d : A) → first_at p 0 l ≡ Some i → (i < length l) × (p (get_or l i d) ≡ true)
     first_found i d e = let f = first-is i d e in (f.0, f.1)
 
     -- none before it passes
-    pub first-lowest : (i : ℕ) (d : A) → first_at p 0 l ≡ some i → (j : ℕ) → j < i → p (get_or l j d) ≡ false
+    pub first-lowest : (i : ℕ) (d : A) → first_at p 0 l ≡ Some i → (j : ℕ) → j < i → p (get_or l j d) ≡ false
     first-lowest i d e = (first-is i d e).2
 
     -- where none is found, none passes
-    pub first_absent : (d : A) → first_at p 0 l ≡ none → (j : ℕ) → j < length l → p (get_or l j d) ≡ false
+    pub first_absent : (d : A) → first_at p 0 l ≡ None → (j : ℕ) → j < length l → p (get_or l j d) ≡ false
     first_absent d e = absent-from 0 l d e
 
     -- where one passes, one is found
-    pub first_some : (d : A) (j : ℕ) → j < length l → p (get_or l j d) ≡ true → (i : ℕ) × (first_at p 0 l ≡ some i)
+    pub first_some : (d : A) (j : ℕ) → j < length l → p (get_or l j d) ≡ true → (i : ℕ) × (first_at p 0 l ≡ Some i)
     first_some d j h e = go (first_at p 0 l) refl
       where
-        go : (o : Option ℕ) → first_at p 0 l ≡ o → (i : ℕ) × (first_at p 0 l ≡ some i)
-        go none q = absurd (true≢false (sym e ∙ first_absent d q j h))
-        go (some i) q = (i, q)
+        go : (o : Option ℕ) → first_at p 0 l ≡ o → (i : ℕ) × (first_at p 0 l ≡ Some i)
+        go None q = absurd (true≢false (sym e ∙ first_absent d q j h))
+        go (Some i) q = (i, q)
 
     -- the first that passes is the one that is found
-    pub first-when : (i : ℕ) (d : A) → i < length l → p (get_or l i d) ≡ true → ((j : ℕ) → j < i → p (get_or l j d) ≡ false) → first_at p 0 l ≡ some i
-    first-when i d h e lower = found ∙ ap some (cases (ltb k i) (λ b. absurd (below (ltb-true k i b))) (λ b. cases (ltb i k) (λ a. absurd (above (ltb-true i k a))) (λ a. omega (arith, ltb-false k i b, ltb-false i k a))))
+    pub first-when : (i : ℕ) (d : A) → i < length l → p (get_or l i d) ≡ true → ((j : ℕ) → j < i → p (get_or l j d) ≡ false) → first_at p 0 l ≡ Some i
+    first-when i d h e lower = found ∙ ap Some (cases (ltb k i) (λ b. absurd (below (ltb-true k i b))) (λ b. cases (ltb i k) (λ a. absurd (above (ltb-true i k a))) (λ a. omega (arith, ltb-false k i b, ltb-false i k a))))
       where
         k : ℕ
         k = (first_some d i h e).0
 
-        found : first_at p 0 l ≡ some k
+        found : first_at p 0 l ≡ Some k
         found = (first_some d i h e).1
 
         below : k < i → ⊥
@@ -177,12 +178,12 @@ module _ {A : Type 0} (p : ℕ → A → Bool) where
 
 -- ---- a search that finds none
 
-pub first-never : {A : Type 0} (p : A → Bool) (l : List A) (d : A) → ((j : ℕ) → j < length l → p (get_or l j d) ≡ false) → first_at p 0 l ≡ none
+pub first-never : {A : Type 0} (p : A → Bool) (l : List A) (d : A) → ((j : ℕ) → j < length l → p (get_or l j d) ≡ false) → first_at p 0 l ≡ None
 first-never p l d h = go (first_at p 0 l) refl
   where
-    go : (o : Option ℕ) → first_at p 0 l ≡ o → first_at p 0 l ≡ none
-    go none q = q
-    go (some i) q = let f = first_found p l i d q in absurd (true≢false (sym f.1 ∙ h i f.0))
+    go : (o : Option ℕ) → first_at p 0 l ≡ o → first_at p 0 l ≡ None
+    go None q = q
+    go (Some i) q = let f = first_found p l i d q in absurd (true≢false (sym f.1 ∙ h i f.0))
 
 -- ---- a change that leaves the default as it is: each element is changed, also past the end
 

@@ -1,12 +1,11 @@
 -- Searching a list and changing each of its elements, by index.
 -- Assumes nothing: these are definitions.
-use Rattle.std.specs.Prelude.{ℕ, zero, suc, Bool, false, cond, ◌||◌, List, [], ◌∷◌, get_or, eqb}
-use Rattle.std.proofs.Math.Option.{Option, none, some}
+use Rattle.std.specs.Prelude.{ℕ, zero, suc, Bool, false, cond, ◌||◌, List, [], ◌∷◌, get_or, eqb, Option, Some, None}
 
 -- the index of the first element that passes the test, counted from i
 unfoldable pub first_at : {A : Type 0} → (A → Bool) → ℕ → List A → Option ℕ
-first_at p i [] = none
-first_at p i (x ∷ xs) = cond (p x) (some i) (first_at p (suc i) xs)
+first_at p i [] = None
+first_at p i (x ∷ xs) = cond (p x) (Some i) (first_at p (suc i) xs)
 
 -- an element passes the test
 unfoldable pub exists : {A : Type 0} → (A → Bool) → List A → Bool

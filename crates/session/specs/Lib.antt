@@ -1,3 +1,2 @@
 pub mod Session
 pub mod Step
-pub mod Edit

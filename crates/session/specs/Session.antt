@@ -1,10 +1,9 @@
 -- A session: its head, the rows of the device, and the requests that wait.
 -- Assumes nothing: these are definitions.
-use Rattle.std.specs.Prelude.{ℕ, ◌-◌, Bool, not, ◌&&◌, ◌||◌, ltb}
+use Rattle.std.specs.Prelude.{ℕ, ◌-◌, Bool, not, ◌&&◌, ◌||◌, ltb, Option}
 use Rattle.octets.specs.Bits.{has_bit}
 use Rattle.header.specs.declared.Side.{Side}
 use Rattle.header.specs.declared.Side.TheVariants.{Guest, Host}
-use Rattle.header.specs.declared.HelloState.{HelloState}
 use Rattle.header.specs.declared.Link.{Link}
 use Rattle.header.specs.Link.{passed, shared_set}
 use Rattle.header.specs.Header.{hold_size}
@@ -56,7 +55,7 @@ abbrev pub max_held : ℕ
 max_held = hold_size - 1
 
 -- "a held count over 32,783 or, own hello passed and other's not, over 0"
-abbrev pub held_bad : HelloState → HelloState → ℕ → Bool
+abbrev pub held_bad : Option ℕ → Option ℕ → ℕ → Bool
 held_bad own other n = ltb max_held n || (passed own && not (passed other) && ltb 0 n)
 
 -- of either direction; "two live requests with one id; row 0 or 16 not control"

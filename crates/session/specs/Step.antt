@@ -1,14 +1,13 @@
 -- What a change does to the session, and what the judge answers.
 -- Assumes nothing: these are definitions.
-use Rattle.std.specs.Prelude.{ℕ, Bool, true, false, cond, eqb, ltb}
+use Rattle.std.specs.Prelude.{ℕ, Bool, true, false, cond, eqb, ltb, Option, Some, None}
 use Rattle.header.specs.Link.{is_guest}
 use Rattle.header.specs.declared.Side.{Side}
-use Rattle.header.specs.declared.HelloState.{HelloState}
-use Rattle.header.specs.declared.HelloState.TheVariants.{Awaited, Passed}
 use Rattle.device.specs.declared.Introduction.{Introduction}
 use Rattle.device.specs.declared.Introduction.TheVariants.{Unintroduced, One, Two}
 use Rattle.device.specs.declared.Head.{Head}
 use Rattle.device.specs.declared.Rows.{Rows}
+use Rattle.device.specs.declared.Scope.{Scope}
 use Rattle.device.specs.declared.Scope.TheVariants.{EveryRow}
 use Rattle.device.specs.Device.{start_rows, replaced, stream_to, closed}
 use Rattle.requests.specs.declared.Requests.{Requests}
@@ -28,11 +27,11 @@ use Rattle.session.specs.Session.{shared_in, is_wide}
 -- ---- the head
 
 -- the first capability word of a side's hello; one that has passed stays as it is
-abbrev pub kept_hello : HelloState → ℕ → HelloState
-kept_hello Awaited word = Passed word
-kept_hello (Passed w) word = Passed w
+abbrev pub kept_hello : Option ℕ → ℕ → Option ℕ
+kept_hello None word = Some word
+kept_hello (Some w) word = Some w
 
-abbrev pub hellos_to : Head → HelloState → HelloState → Head
+abbrev pub hellos_to : Head → Option ℕ → Option ℕ → Head
 hellos_to h guest host =
     record { guest = guest; host = host; stopped = h.stopped; held = h.held; present = h.present; introduction = h.introduction; owed = h.owed }
 
@@ -94,6 +93,11 @@ rows_after rows (Release i typed stream scope) new = closed (stream_by rows type
 
 -- ---- the requests
 
+-- the request at a place ends, and so do the data requests on the rows in scope; none where there is no such place
+abbrev pub released_at : Requests → Option ℕ → Rows → Scope → Requests
+released_at t None rows scope = t
+released_at t (Some i) rows scope = cond (ltb i places) (released t i rows scope) t
+
 abbrev pub requests_after : Requests → Rows → Change → Requests
 requests_after t rows NoChange = t
 requests_after t rows (Seen e id) = t
@@ -108,7 +112,7 @@ requests_after t rows Acknowledge = t
 requests_after t rows (Take i q) = with_request t i q
 requests_after t rows (TakeAndOpen i q typed) = with_request t i q
 -- "A passed reply frees the place", and the data requests that end with it
-requests_after t rows (Release i typed stream scope) = cond (ltb i places) (released t i rows scope) t
+requests_after t rows (Release place typed stream scope) = released_at t place rows scope
 
 -- ---- the watch
 

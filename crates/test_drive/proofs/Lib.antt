@@ -1,5 +1,4 @@
-pub mod RecordBytes
-pub mod WatchBytes
-pub mod ScriptRuns
+mod RecordBytes
+mod WatchBytes
+mod ScriptRuns
 mod Records
-mod Columns

@@ -1,10 +1,11 @@
--- The bytes of a call's record (`answer-length`, `answer-bytes`), bytes laid behind others (`behind`), and a part that is lent and laid back
--- (`laid-back`, `stands`).
+-- The bytes of a call's record (`answer-length`, `answer-bytes`), bytes laid behind others (`behind`), and a part that is
+-- lent and laid back (`laid-back`).
 -- The code's sums wrap at 2 ^ 64, which their four low bytes do not show (`low-bytes`).
 -- Assumes nothing.
-use Rattle.std.proofs.Common.{◌≡◌, ℕ, ◌+◌, ◌-◌, ◌*◌, ◌/◌, ◌%◌, ◌^◌, ◌≤◌, List, ◌++◌, length, take, drop, sym, refl, ap, ◌∙◌, ap₂, append_assoc, arith, length-take-le, take_at, drop_at}
+use Rattle.std.specs.Prelude.{Some, None}
+use Rattle.std.proofs.Common.{◌≡◌, ℕ, ◌+◌, ◌-◌, ◌*◌, ◌/◌, ◌%◌, ◌^◌, ◌≤◌, List, ◌++◌, length, take, drop, sym, refl, ap, ◌∙◌, ap₂, append_assoc, arith}
 use lib.Seq.{sets, sets-eq}
-use borrow.Rule.Slice.PartMut.{mid_of, post_of, put_mid, mid_len, Post-is}
+use borrow.Rule.Slice.PartMut.{mid_of, put_mid, mid_len, Post-is}
 use Rattle.octets.specs.Little.{bytes_of}
 use Rattle.octets.proofs.Integers.{sets-append}
 use Rattle.header.specs.declared.Link.{Link}
@@ -12,8 +13,7 @@ use Rattle.header.specs.Link.{shared_set}
 use Rattle.packet.specs.declared.Part.{Part}
 use Rattle.packet.specs.Packet.{rest_of}
 use Rattle.packet.proofs.Same.{shown-same}
-use Rattle.gate.specs.declared.Handed.{Handed}
-use Rattle.gate.specs.declared.Handed.TheVariants.{NoPacket, OnePacket}
+use Rattle.gate.specs.Verdict.{Handed}
 use Rattle.gate.specs.Verdict.{handed_as}
 use Rattle.gate.specs.declared.Answer.{Answer}
 use Rattle.gate.specs.declared.Offered.{Offered}
@@ -22,7 +22,7 @@ use Rattle.gate.specs.Offer.{outcome}
 use Rattle.test_drive.specs.Drive.{location_number, start_of, end_of, id_handed, record_bytes, record_of}
 use Rattle.test_drive.specs.ScriptSteps.{span_of, answer_bytes}
 
--- ---- a part that is lent and comes back, as long as it was: it is laid where it stood, and stands there
+-- ---- a part that is lent and comes back, as long as it was, is laid where it stood
 
 module _ (l ys : List ℕ) (a e : ℕ) (up : a ≤ e) (within : e ≤ length l) (kept : length ys ≡ length (mid_of a (e - a) l)) where
   as_long : length ys ≡ e - a
@@ -34,10 +34,6 @@ module _ (l ys : List ℕ) (a e : ℕ) (up : a ≤ e) (within : e ≤ length l) 
       ap (λ (z : List ℕ). take a l ++ (ys ++ z)) (Post-is a e l up ∙ ap (λ (i : ℕ). drop i l) (sym q))
       ∙ sym (append_assoc (take a l) ys (drop (a + length ys) l))
       ∙ sym (sets-eq ys l a (omega arith))
-
-  pub stands : mid_of a (e - a) (put_mid a (e - a) l ys) ≡ ys
-  stands =
-      ap (take (e - a)) (drop_at (take a l) (ys ++ post_of a (e - a) l) a (length-take-le a l (omega arith))) ∙ take_at ys (post_of a (e - a) l) (e - a) as_long
 
 -- ---- a record
 
@@ -74,8 +70,8 @@ module _ (number location taken size : ℕ) where
 
   -- what the code hands out has the bytes of what it stands for
   handed-bytes : (l : Link) (bytes : List ℕ) (h : Handed) → record_bytes number location taken size (span_of h).start (span_of h).end (span_of h).id ≡ record_bytes number location taken size (start_of (handed_as l bytes h)) (end_of (handed_as l bytes h)) (id_handed (handed_as l bytes h))
-  handed-bytes l bytes NoPacket = refl
-  handed-bytes l bytes (OnePacket h p) =
+  handed-bytes l bytes None = refl
+  handed-bytes l bytes (Some (h, p)) =
       low-record (h.size + (rest_of p).start) (h.size + (rest_of p).end) h.id
       ∙ ap (λ (q : Part). record_bytes number location taken size (h.size + q.start) (h.size + q.end) h.id) (sym (shown-same (shared_set l) p).1)
 

@@ -1,17 +1,10 @@
--- The record of a call, laid by its seven numbers (`answer-laid`) in a part of the output that is lent (`record-back`), and what stands for the part that
--- a packet names (`data-none`, `data-passed`).
+-- The record of a call, laid by its seven numbers (`answer-laid`) in a part of the output that is lent (`record-back`).
 -- Seven numbers, each laid where the one before it ends, are one run of stores (`behind`).
 -- Assumes nothing.
-use Rattle.std.proofs.Common.{◌≡◌, ℕ, ◌+◌, ◌-◌, ◌%◌, ◌^◌, ◌≤◌, List, ◌++◌, length, sym, refl, ap, ◌∙◌, append-nil, arith, drop_of_length-le}
+use Rattle.std.proofs.Common.{◌≡◌, ℕ, ◌+◌, ◌-◌, ◌≤◌, List, ◌++◌, length, sym, refl, ap, ◌∙◌, append-nil, arith, drop_of_length-le}
 use lib.Seq.{sets, sets-eq}
 use borrow.Rule.Slice.PartMut.{mid_of, put_mid, mid_len}
 use Rattle.octets.specs.Little.{bytes_of}
-use Rattle.header.specs.declared.Header.{Header}
-use Rattle.packet.specs.declared.Part.{Part}
-use Rattle.packet.specs.declared.Packet.{Packet}
-use Rattle.packet.specs.Packet.{rest_of}
-use Rattle.gate.specs.declared.Handed.{Handed}
-use Rattle.gate.specs.declared.Handed.TheVariants.{NoPacket, OnePacket}
 use Rattle.gate.specs.declared.Answer.{Answer}
 use Rattle.test_drive.specs.declared.Span.{Span}
 use Rattle.test_drive.specs.Drive.{location_number, record_bytes}
@@ -61,13 +54,3 @@ pub record-back : (l : List ℕ) {r : List ℕ} (at : ℕ) (a : Answer) → at +
 record-back l at a h e =
     let n : length (answer_bytes a) ≡ length (mid_of at (at + 26 - at) l) = omega (arith, mid_len at (at + 26) l h, answer-length a) in
     ap (put_mid at (at + 26 - at) l) (e ∙ all_set (mid_of at (at + 26 - at) l) (answer_bytes a) (sym n)) ∙ laid-back l (answer_bytes a) at (at + 26) (omega arith) h n
-
-pub data-none : {handed : Handed} → handed ≡ NoPacket → record { start = 0; end = 0; id = 0 } ≡ span_of handed
-data-none e = rw e
-
-pub data-passed : {handed : Handed} {h : Header} {p : Packet} {named : Part} {start end : ℕ} → handed ≡ OnePacket h p
-    → named ≡ rest_of p
-    → start ≡ (h.size + named.start) % 2 ^ 64
-    → end ≡ (h.size + named.end) % 2 ^ 64
-    → record { start = start; end = end; id = h.id } ≡ span_of handed
-data-passed q n a b = rw (q, a, b, n)

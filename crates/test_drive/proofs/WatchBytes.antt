@@ -1,5 +1,6 @@
--- The bytes of a watch: none at first (`none-laid`), one row more (`rows_more`), how many they are (`rows-length`), and a row laid behind the others by
--- three numbers (`row_laid`); and bytes laid at the front of a part that reaches to the end, which are laid where the part begins (`rest_back`).
+-- The bytes of a watch: none at first (`none-laid`), one row more (`rows_more`), how many they are (`rows-length`), and a
+-- row laid behind the others by three numbers (`row_laid`); and bytes laid at the front of a part that reaches to the
+-- end, which are laid where the part begins (`rest_back`).
 -- Assumes nothing.
 use Rattle.std.proofs.Common.{◌≡◌, ℕ, zero, suc, ◌+◌, ◌-◌, ◌*◌, ◌≤◌, List, [], ◌∷◌, ◌++◌, length, take, drop, set, sym, refl, ap, ◌∙◌, append_assoc, append-nil, add-zero, add-suc, suc-add, zero-add, add-one, arith, length-append, length-drop, take-append-drop, drop_of_length-le, length-take-le, take_all}
 use lib.Seq.{sets}
@@ -15,7 +16,7 @@ module _ (w : Watch) where
   unfolding rows_bytes
   none-laid out = refl
 
-  pub rows_more : (i n : ℕ) → rows_bytes w i (suc n) ≡ rows_bytes w i n ++ row_bytes (watch_at w (i + n))
+  rows_more : (i n : ℕ) → rows_bytes w i (suc n) ≡ rows_bytes w i n ++ row_bytes (watch_at w (i + n))
   unfolding rows_bytes
   rows_more i zero = rw (add-zero i) refl
   rows_more i (suc n) =
@@ -23,7 +24,7 @@ module _ (w : Watch) where
       ∙ sym (append_assoc (row_bytes (watch_at w i)) (rows_bytes w (suc i) n) (row_bytes (watch_at w (suc i + n))))
       ∙ ap (λ (k : ℕ). (row_bytes (watch_at w i) ++ rows_bytes w (suc i) n) ++ row_bytes (watch_at w k)) (suc-add i n ∙ sym (add-suc i n))
 
-  pub rows-length : (i n : ℕ) → length (rows_bytes w i n) ≡ n * 18
+  rows-length : (i n : ℕ) → length (rows_bytes w i n) ≡ n * 18
   unfolding rows_bytes
   rows-length i zero = refl
   rows-length i (suc n) = length-append (row_bytes (watch_at w i)) (rows_bytes w (suc i) n) ∙ omega (arith, rows-length (suc i) n)

@@ -1,8 +1,7 @@
--- A script of reader calls on a fresh session: what each call tells, and what stands in the two holding buffers when the script is over. The two
--- are the halves of one buffer.
+-- A script of reader calls on a fresh session: what each call tells, and what stands in the two holding buffers when the
+-- script is over. The two are the halves of one buffer.
 -- Assumes nothing: these are definitions.
-use Rattle.std.specs.Prelude.{◌≡◌, ℕ, zero, suc, ◌+◌, ◌/◌, Bool, cond, List, [], ◌++◌, length, drop, nat_le}
-use Rattle.std.proofs.Math.Option.{Option, none, some}
+use Rattle.std.specs.Prelude.{◌≡◌, ℕ, zero, suc, ◌+◌, ◌/◌, Bool, cond, List, [], ◌++◌, length, drop, nat_le, Option, Some, None}
 use Rattle.std.proofs.lemmas.List.Edits.{sets}
 use Rattle.std.proofs.Math.Seq.{slice}
 use Rattle.octets.specs.Little.{le, bytes_of}
@@ -40,18 +39,19 @@ location_number Nowhere = 0
 location_number Piece = 1
 location_number Buffer = 2
 
--- where the part that a packet names starts and ends among the packet's bytes, and the packet's id; 0 where nothing is handed out
+-- where the part that a packet names starts and ends among the packet's bytes, and the packet's id; 0 where nothing is
+-- handed out
 abbrev pub start_of : Option PacketTold → ℕ
-start_of none = 0
-start_of (some h) = h.header.size + h.rest.start
+start_of None = 0
+start_of (Some h) = h.header.size + h.rest.start
 
 abbrev pub end_of : Option PacketTold → ℕ
-end_of none = 0
-end_of (some h) = h.header.size + h.rest.end
+end_of None = 0
+end_of (Some h) = h.header.size + h.rest.end
 
 abbrev pub id_handed : Option PacketTold → ℕ
-id_handed none = 0
-id_handed (some h) = h.header.id
+id_handed None = 0
+id_handed (Some h) = h.header.id
 
 unfoldable pub record_bytes : ℕ → ℕ → ℕ → ℕ → ℕ → ℕ → ℕ → List ℕ
 record_bytes number location taken size start end id =
@@ -119,7 +119,8 @@ run_of (suc n) r script = cond (item_whole script) (run_of n (ran_call r (sender
 unfoldable pub driven : List ℕ → List ℕ → List ℕ → Run
 driven script holds out = run_of (length out / 26) (begun holds) script
 
--- the records stand at the front of the output, the watch after all calls behind them, as far as it goes, and the number of calls is told
+-- the records stand at the front of the output, the watch after all calls behind them, as far as it goes, and the number of
+-- calls is told
 pub record Drives (script holds out holds' out' : List ℕ) (count : ℕ) : Type 0 where
   pub count-is : count ≡ (driven script holds out).calls
   pub holds-are : holds' ≡ (driven script holds out).holds

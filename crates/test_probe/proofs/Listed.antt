@@ -3,19 +3,18 @@
 -- Past its end a list reads as 0: by induction over the list and the index. A number that may not be there goes by its two cases; a row is
 -- replaced by its equal.
 -- Assumes nothing.
+use Rattle.std.specs.Prelude.{Option}
 use mathlib.Core.Path.{◌≡◌, refl, ap, ◌∙◌}
 use mathlib.Core.List.{List, [], ◌∷◌, map}
-use mathlib.Core.Option.{Option}
 use Prim.Native.Nat.{ℕ, zero, suc, ◌≤◌}
 use native.Mathlib.Omega.{arith}
 use lib.ListN.{length, get_or}
 use Rattle.kinds.specs.Content.{first_number, padded}
 use Rattle.packet.proofs.Names.{first-single}
-use Rattle.packet.specs.Packet.{optional, single}
+use Rattle.packet.specs.Packet.{single}
 use Rattle.packet.specs.Fields.{or_zero}
 use Rattle.packet.specs.declared.InterfaceRow.{InterfaceRow}
 use Rattle.packet.specs.declared.EndpointRow.{EndpointRow}
-use Rattle.test_probe.specs.Probe.{value32_of}
 
 -- ---- numbers with zeros behind them
 
@@ -41,7 +40,7 @@ module _ (i : ℕ) {n : ℕ} where
       → n ≡ get_or (q.interface ∷ q.class ∷ q.subclass ∷ q.protocol ∷ 0 ∷ 0 ∷ 0 ∷ []) i 0
   interface-cell e h = h ∙ ap (λ (r : InterfaceRow). get_or (r.interface ∷ r.class ∷ r.subclass ∷ r.protocol ∷ 0 ∷ 0 ∷ 0 ∷ []) i 0) e
 
-  pub endpoint-cell : {r q : EndpointRow} {v w : ℕ} → r ≡ q → v ≡ or_zero (optional r.maxpacket) → w ≡ value32_of r.maxstreams
+  pub endpoint-cell : {r q : EndpointRow} {v w : ℕ} → r ≡ q → v ≡ or_zero r.maxpacket → w ≡ or_zero r.maxstreams
       → n ≡ get_or (r.ty ∷ r.interval ∷ r.interface ∷ v ∷ w ∷ 0 ∷ 0 ∷ []) i 0
-      → n ≡ get_or (q.ty ∷ q.interval ∷ q.interface ∷ or_zero (optional q.maxpacket) ∷ value32_of q.maxstreams ∷ 0 ∷ 0 ∷ []) i 0
+      → n ≡ get_or (q.ty ∷ q.interval ∷ q.interface ∷ or_zero q.maxpacket ∷ or_zero q.maxstreams ∷ 0 ∷ 0 ∷ []) i 0
   endpoint-cell e f g h = cc

@@ -4,14 +4,16 @@
 -- holds are the first of its content's fields, since they are as many as its kind has in front: a line for each variant, by computation
 -- (`front-counts`); and the code's list of them, which ends in zeros, reads like them (`numbers-front`).
 -- Assumes nothing.
+use Rattle.std.specs.Prelude.{Option, Ok, Err}
 use mathlib.Core.Path.{◌≡◌, refl, sym, ap, ◌∙◌}
 use mathlib.Core.List.{List, map}
-use mathlib.Core.Option.{Option}
 use Prim.Native.Nat.{ℕ, ◌≤◌}
 use lib.ListN.{length, get_or, drop, length-map}
 use lib.Seq.{take_at}
 use lib.Dec.{lit≤}
 use borrow.Author.Tests.{ne_eqb}
+use Rattle.header.specs.declared.Refusal.{Refusal}
+use Rattle.header.specs.Refusal.{number_of}
 use Rattle.header.specs.declared.Header.{Header}
 use Rattle.header.specs.declared.Link.{Link}
 use Rattle.header.specs.Link.{shared_set}
@@ -24,9 +26,7 @@ use Rattle.packet.specs.declared.Packet.TheVariants.{Hello, Connect, Disconnect,
 use Rattle.packet.specs.Packet.{shown_of, rest_of, single, content_of}
 use Rattle.packet.specs.Fields.{or_zero, fields_of}
 use Rattle.packet.proofs.Same.{shown-same}
-use Rattle.decoder.specs.declared.Reading.{Reading}
-use Rattle.decoder.specs.declared.Reading.TheVariants.{Refused, Decoded}
-use Rattle.decoder.specs.Reading.{told, read_of, front_fields}
+use Rattle.decoder.specs.Reading.{Reading, told, read_of, front_fields}
 use Rattle.decoder.proofs.Decoded.{refusing, passing}
 use Rattle.test_probe.specs.Probe.{front_of, field_in, part_in}
 use Rattle.test_probe.proofs.Listed.{padded-at, numbers_of_lem}
@@ -84,27 +84,27 @@ numbers-front caps id p body i =
 -- ---- by function, with the link as the code has it
 
 module _ {l m : Link} (same-link : l ≡ m) (bytes : List ℕ) {r : Reading} (t : told l bytes r ≡ read_of l bytes) where
-  pub number-refused : {n : ℕ} → r ≡ Refused n → n ≡ read_number m bytes
-  number-refused e = (refusing t e).number ∙ ap (λ (x : Link). read_number x bytes) same-link
+  pub number-refused : {v : Refusal} {n : ℕ} → r ≡ Err v → n ≡ number_of v → n ≡ read_number m bytes
+  number-refused e k = k ∙ (refusing t e).number ∙ ap (λ (x : Link). read_number x bytes) same-link
 
-  pub number_passed : {h : Header} {p : Packet} → r ≡ Decoded h p → 0 ≡ read_number m bytes
+  pub number_passed : {h : Header} {p : Packet} → r ≡ Ok (h, p) → 0 ≡ read_number m bytes
   number_passed e = sym (passing t e).number ∙ ap (λ (x : Link). read_number x bytes) same-link
 
-  pub field-refused : (i : ℕ) {n : ℕ} → r ≡ Refused n → 0 ≡ field_in m bytes i
+  pub field-refused : (i : ℕ) {v : Refusal} → r ≡ Err v → 0 ≡ field_in m bytes i
   field-refused i e = rw (← same-link, (refusing t e).nonzero)
 
-  pub field-passed : {h : Header} {p : Packet} {caps n : ℕ} (i : ℕ) → r ≡ Decoded h p → caps ≡ shared_set l
+  pub field-passed : {h : Header} {p : Packet} {caps n : ℕ} (i : ℕ) → r ≡ Ok (h, p) → caps ≡ shared_set l
       → n ≡ get_or (fields_of caps p).numbers i 0
       → n ≡ field_in m bytes i
   field-passed {h} {p} {caps} i e f g =
       let q = passing t e in
       rw (← same-link, q.number, ← q.content) (g ∙ rw f (numbers-front (shared_set l) h.id p (drop h.size bytes) i))
 
-  pub part-refused : (end : ℕ) {n : ℕ} → r ≡ Refused n → 0 ≡ part_in m bytes end
+  pub part-refused : (end : ℕ) {v : Refusal} → r ≡ Err v → 0 ≡ part_in m bytes end
   part-refused end e = rw (← same-link, (refusing t e).nonzero)
 
-  pub part-start : {h : Header} {p : Packet} {end : ℕ} {q : Part} → r ≡ Decoded h p → q ≡ rest_of p → end ≡ 0 → q.start ≡ part_in m bytes end
+  pub part-start : {h : Header} {p : Packet} {end : ℕ} {q : Part} → r ≡ Ok (h, p) → q ≡ rest_of p → end ≡ 0 → q.start ≡ part_in m bytes end
   part-start {p = p} e g z = let s = passing t e in rw (← same-link, s.number, z) (ap (λ (x : Part). x.start) (g ∙ sym (shown-same (shared_set l) p).1 ∙ s.rest))
 
-  pub part_end : {h : Header} {p : Packet} {end : ℕ} {q : Part} → r ≡ Decoded h p → q ≡ rest_of p → (end ≡ 0 → ⊥) → q.end ≡ part_in m bytes end
+  pub part_end : {h : Header} {p : Packet} {end : ℕ} {q : Part} → r ≡ Ok (h, p) → q ≡ rest_of p → (end ≡ 0 → ⊥) → q.end ≡ part_in m bytes end
   part_end {p = p} {end = end} e g z = let s = passing t e in rw (← same-link, s.number, ne_eqb end 0 z) (ap (λ (x : Part). x.end) (g ∙ sym (shown-same (shared_set l) p).1 ∙ s.rest))

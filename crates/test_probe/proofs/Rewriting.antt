@@ -2,30 +2,30 @@
 -- not (`rewrite-refused`); and what the writing of a bulk packet tells (`bulk-written`).
 -- What the read packet says is `decode` of the bytes (`passing`), and of that content the encoder's contract speaks.
 -- Assumes nothing.
+use Rattle.std.specs.Prelude.{Ok, Err}
 use mathlib.Core.Path.{◌≡◌}
 use mathlib.Core.List.{List}
 use Prim.Native.Nat.{ℕ}
 use lib.ListN.{length}
 use lib.Seq.{slice, take-length}
+use Rattle.header.specs.declared.Refusal.{Refusal}
 use Rattle.header.specs.declared.Header.{Header}
 use Rattle.header.specs.declared.Link.{Link}
 use Rattle.header.specs.Link.{shared_set}
 use Rattle.kinds.specs.Codec.{decode}
 use Rattle.packet.specs.declared.Packet.{Packet}
 use Rattle.packet.specs.Packet.{content_of}
-use Rattle.decoder.specs.declared.Reading.{Reading}
-use Rattle.decoder.specs.declared.Reading.TheVariants.{Refused, Decoded}
-use Rattle.decoder.specs.Reading.{told, read_of}
+use Rattle.decoder.specs.Reading.{Reading, told, read_of}
 use Rattle.decoder.proofs.Decoded.{refusing, passing}
 use Rattle.encoder.specs.declared.Written.{Written}
 use Rattle.encoder.specs.Written.{Writes}
 use Rattle.test_probe.specs.Probe.{Rewrites, WritesBulk, bulk_of}
 
 module _ {l m : Link} (same-link : l ≡ m) {bytes : List ℕ} {r : Reading} (t : told l bytes r ≡ read_of l bytes) {out : List ℕ} where
-  pub rewrite-refused : {n : ℕ} → r ≡ Refused n → Rewrites m bytes out 0 out
+  pub rewrite-refused : {v : Refusal} → r ≡ Err v → Rewrites m bytes out 0 out
   rewrite-refused e = let s = refusing t e in record { size = rw (← same-link, s.nonzero); output = rw (← same-link, s.nonzero) }
 
-  pub rewrite-passed : {h : Header} {p : Packet} {body : List ℕ} {w : Written} {after : List ℕ} → r ≡ Decoded h p
+  pub rewrite-passed : {h : Header} {p : Packet} {body : List ℕ} {w : Written} {after : List ℕ} → r ≡ Ok (h, p)
       → body ≡ slice h.size (length bytes) bytes
       → Writes l (content_of (shared_set l) h.id p body) out w after
       → Rewrites m bytes out w.size after

@@ -1,33 +1,24 @@
 -- What the functions for host programs answer: the library's definitions, by plain numbers.
 -- Assumes nothing: these are definitions.
-use Rattle.std.specs.Prelude.{ℕ, ◌≡◌, cond, not, List, [], ◌∷◌, map, length, get_or, take, eqb, ltb}
+use Rattle.std.specs.Prelude.{ℕ, ◌≡◌, cond, not, List, [], ◌∷◌, map, length, get_or, take, eqb, ltb, Option, Some, None}
+use Rattle.endpoint.specs.declared.Row.{Row}
 use Rattle.endpoint.specs.Endpoint.{row_of}
-use Rattle.endpoint.specs.declared.RowOf.{RowOf}
-use Rattle.endpoint.specs.declared.RowOf.TheVariants.{At, Malformed}
-use Rattle.header.specs.declared.HelloState.{HelloState}
-use Rattle.header.specs.declared.HelloState.TheVariants.{Awaited, Passed}
 use Rattle.header.specs.declared.Link.{Link}
 use Rattle.header.specs.Link.{shared_set, side_of}
 use Rattle.kinds.specs.Content.{Value, Content, first_number}
 use Rattle.kinds.specs.Codec.{layout, decode, read_number, write_number, written_size, written}
 use Rattle.packet.specs.declared.Part.{Part}
 use Rattle.packet.specs.declared.Packet.TheVariants.{Bulk}
-use Rattle.packet.specs.Packet.{optional, content_of}
+use Rattle.packet.specs.Packet.{content_of}
 use Rattle.packet.specs.Fields.{or_zero}
-use Rattle.packet.specs.declared.Optional32.{Optional32}
-use Rattle.packet.specs.declared.Optional32.TheVariants.{Absent, Present}
 use Rattle.packet.specs.Rows.{interface_row, endpoint_row}
 use Rattle.decoder.specs.Reading.{front_fields, rest_at, kind_of_bytes, body_size}
 
-abbrev pub hello_of : ℕ → HelloState
-hello_of word = cond (ltb word 4294967296) (Passed word) Awaited
+abbrev pub hello_of : ℕ → Option ℕ
+hello_of word = cond (ltb word 4294967296) (Some word) None
 
 abbrev pub link_of : ℕ → ℕ → ℕ → Link
 link_of sender guest host = record { sender = side_of sender; guest = hello_of guest; host = hello_of host }
-
-abbrev pub value32_of : Optional32 → ℕ
-value32_of Absent = 0
-value32_of (Present x) = x
 
 -- the fields that are one number each
 abbrev pub front_of : Content → List Value
@@ -45,9 +36,9 @@ rest_part l bytes = rest_at (shared_set l) (kind_of_bytes bytes) (body_size l by
 abbrev pub part_in : Link → List ℕ → ℕ → ℕ
 part_in l bytes end = cond (eqb (read_number l bytes) 0) (cond (eqb end 0) (rest_part l bytes).start (rest_part l bytes).end) 0
 
-abbrev pub row_number : RowOf → ℕ
-row_number (At r) = r.0
-row_number Malformed = 255
+abbrev pub row_number : Option Row → ℕ
+row_number (Some r) = r.0
+row_number None = 255
 
 abbrev pub row_in : ℕ → ℕ
 row_in b = row_number (row_of (record { 0 = b }))
@@ -75,4 +66,4 @@ interface_cell rows body row column =
 abbrev pub endpoint_cell : Part → List ℕ → ℕ → ℕ → ℕ → ℕ → ℕ
 endpoint_cell rows body packets streams row column =
     let r = endpoint_row (record { rows = rows; maxpacket = not (eqb packets 0); maxstreams = not (eqb streams 0) }) body row in
-    get_or (r.ty ∷ r.interval ∷ r.interface ∷ or_zero (optional r.maxpacket) ∷ value32_of r.maxstreams ∷ 0 ∷ 0 ∷ []) column 0
+    get_or (r.ty ∷ r.interval ∷ r.interface ∷ or_zero r.maxpacket ∷ or_zero r.maxstreams ∷ 0 ∷ 0 ∷ []) column 0

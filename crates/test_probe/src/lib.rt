@@ -5,37 +5,31 @@
 ghost use Rattle.std.specs.Prelude.{◌≡◌, get_or};
 ghost use Rattle.kinds.specs.Codec.{read_number};
 ghost use Rattle.packet.specs.Fields.{fields_of};
-ghost use Rattle.test_probe.specs.Probe.{hello_of, link_of, field_in, part_in, Rewrites, WritesBulk, row_in, value32_of, interface_cell, endpoint_cell};
+ghost use Rattle.test_probe.specs.Probe.{hello_of, link_of, field_in, part_in, Rewrites, WritesBulk, row_in, interface_cell, endpoint_cell};
 
-use decoder::{Reading, read};
+use decoder::read;
 use encoder::write;
-use endpoint::{Endpoint, Row, RowOf, row_of};
-use header::{HelloState, Link, Side, shared_set, side_of};
+use endpoint::{Endpoint, Row, row_of};
+use header::{Link, Side, shared_set, side_of};
 use octets::part;
 use packet::{
-    Bulk, EndpointTable, InterfaceTable, Optional32, Packet, Part, endpoint_row, fields_of,
-    interface_row, rest_of, value16,
+    Bulk, EndpointTable, InterfaceTable, Packet, Part, endpoint_row, fields_of, interface_row,
+    rest_of, value16,
 };
 
-fn hello_of(word: u64) -> HelloState
+fn hello_of(word: u64) -> Option<u32>
     ensures { result ≡ hello_of word }
 {
-    if word < 4294967296 {
-        HelloState::Passed(word as u32)
-    } else {
-        HelloState::Awaited
-    }
+    u32::try_from(word).ok()
 }
 
 fn link_of(sender: u8, guest: u64, host: u64) -> Link
     ensures { result ≡ link_of sender guest host }
 {
-    let g = hello_of(guest);
-    let h = hello_of(host);
     Link {
         sender: side_of(sender),
-        guest: g,
-        host: h,
+        guest: hello_of(guest),
+        host: hello_of(host),
     }
 }
 
@@ -50,9 +44,7 @@ fn pick(i: usize, xs: [u64; 7]) -> u64
 fn field_of(caps: u32, p: Packet, i: usize) -> u64
     ensures { result ≡ get_or (fields_of caps p).numbers i 0 }
 {
-    let f = fields_of(caps, p);
-    let xs = f.numbers;
-    pick(i, xs)
+    pick(i, fields_of(caps, p).numbers)
 }
 
 // The number of the bytes of one packet.
@@ -61,8 +53,8 @@ pub extern "C" fn test_probe_number(sender: u8, guest: u64, host: u64, bytes: &[
     ensures { result ≡ read_number (link_of sender guest host) bytes.now }
 {
     match read(link_of(sender, guest, host), bytes) {
-        Reading::Refused(n) => n,
-        Reading::Decoded(_, _) => 0,
+        Ok(_) => 0,
+        Err(r) => r.number(),
     }
 }
 
@@ -73,8 +65,8 @@ pub extern "C" fn test_probe_field(sender: u8, guest: u64, host: u64, bytes: &[u
 {
     let l = link_of(sender, guest, host);
     match read(l, bytes) {
-        Reading::Refused(_) => 0,
-        Reading::Decoded(_, p) => field_of(shared_set(l), p, i),
+        Err(_) => 0,
+        Ok((_, p)) => field_of(shared_set(l), p, i),
     }
 }
 
@@ -85,8 +77,8 @@ pub extern "C" fn test_probe_part(sender: u8, guest: u64, host: u64, bytes: &[u8
 {
     let l = link_of(sender, guest, host);
     match read(l, bytes) {
-        Reading::Refused(_) => 0,
-        Reading::Decoded(_, p) => {
+        Err(_) => 0,
+        Ok((_, p)) => {
             let q = rest_of(p);
             if end == 0 { q.start } else { q.end }
         }
@@ -99,8 +91,8 @@ pub extern "C" fn test_probe_row(byte: u8) -> u8
     ensures { result ≡ row_in byte }
 {
     match row_of(Endpoint(byte)) {
-        RowOf::At(row) => row.0,
-        RowOf::Malformed => 255,
+        Some(row) => row.0,
+        None => 255,
     }
 }
 
@@ -117,13 +109,10 @@ pub extern "C" fn test_probe_rewrite(
 {
     let l = link_of(sender, guest, host);
     match read(l, bytes) {
-        Reading::Refused(_) => 0,
-        Reading::Decoded(h, p) => {
-            let start = h.size;
-            let id = h.id;
-            let body = part(bytes, start, bytes.len());
-            let w = write(l, id, p, body, out);
-            w.size
+        Err(_) => 0,
+        Ok((h, p)) => {
+            let body = part(bytes, h.size, bytes.len());
+            write(l, h.id, p, body, out).size
         }
     }
 }
@@ -154,8 +143,7 @@ pub extern "C" fn test_probe_write_bulk(
         stream: 0,
         payload: rest,
     };
-    let w = write(l, id, Packet::Bulk(p), body, out);
-    w.number
+    write(l, id, Packet::Bulk(p), body, out).number
 }
 
 // A column (0 interface, 1 class, 2 subclass, 3 protocol) of a row of an interface table whose rows are that part of body.
@@ -185,15 +173,6 @@ pub extern "C" fn test_probe_interface(
     )
 }
 
-fn value32(x: Optional32) -> u64
-    ensures { result ≡ value32_of x }
-{
-    match x {
-        Optional32::Absent => 0,
-        Optional32::Present(y) => y as u64,
-    }
-}
-
 // A column (0 type, 1 interval, 2 interface, 3 max packet, 4 max streams) of a row of an endpoint table whose rows are that
 // part of body, with max packet and max streams where these are not 0.
 #[unsafe(no_mangle)]
@@ -215,16 +194,14 @@ pub extern "C" fn test_probe_endpoint(
         maxstreams: streams != 0,
     };
     let r = endpoint_row(body, t, Row(row));
-    let maxpacket = r.maxpacket;
-    let maxstreams = r.maxstreams;
     pick(
         column,
         [
             r.ty as u64,
             r.interval as u64,
             r.interface as u64,
-            value16(maxpacket),
-            value32(maxstreams),
+            value16(r.maxpacket),
+            r.maxstreams.unwrap_or(0) as u64,
             0,
             0,
         ],

@@ -22,7 +22,6 @@ use Rattle.session.specs.declared.Session.{Session}
 use Rattle.session.specs.Session.{fresh_session}
 use Rattle.gate.specs.Verdict.{verdict_of}
 use Rattle.claims.proofs.PacketLists.{start-sound}
-use Rattle.test_replay.specs.declared.Replayed.{Replayed}
 use Rattle.test_replay.specs.Replay.{packet_size, verdict_at, numbers_of, Replays, Gives}
 use Rattle.test_replay.proofs.Judging.{verdict-ids}
 
@@ -73,23 +72,23 @@ numbers_more s script at n e h x y =
 
 module _ {script before after : List ℕ} {s : Session} {at k : ℕ} (p : Replaying script before after s at k) where
   -- a whole packet: its number is laid behind the others, and what is to come stands behind it in the script
-  pub replay-goes-on : {rest : List ℕ} {n b : ℕ} {from : Side} {bytes : List ℕ} (v : Replayed) → k < length after
+  pub replay-goes-on : {rest : List ℕ} {n b : ℕ} {from : Side} {bytes : List ℕ} {next : Session} {number : ℕ} → k < length before
       → rest ≡ drop at script
       → n ≡ le 2 rest 1
       → 3 + n ≤ length rest
       → b ≡ le 1 rest 0
       → from ≡ side_of b
       → bytes ≡ slice 3 (3 + n) rest
-      → (ids_differ s.requests ≡ true → Gives v (verdict_of s from bytes))
-      → Replaying script before (set after k v.number) v.session (at + (3 + n)) (k + 1)
-  replay-goes-on {n = n} {from = from} {bytes = bytes} v h r en w eb ef by ev =
+      → (ids_differ s.requests ≡ true → Gives next number (verdict_of s from bytes))
+      → Replaying script before (set after k number) next (at + (3 + n)) (k + 1)
+  replay-goes-on {n} {from} {bytes} {next} {number} h r en w eb ef by ev =
       let a : verdict_of s from bytes ≡ verdict_at s (drop at script) = rw (ef, eb, by, en, r) in
-      let g : Gives v (verdict_at s (drop at script)) = rw a at (ev p.ids) in
+      let g : Gives next number (verdict_at s (drop at script)) = rw a at (ev p.ids) in
       let m : 3 + n ≡ packet_size (drop at script) = rw (en, r) in
       let l : 3 + n ≤ length (drop at script) = rw r at w in
       let d = length-drop at script in
       let e : length before - k ≡ suc (length before - (k + 1)) = omega (arith, p.same_length) in
-      let q : numbers_of (length before - k) s (drop at script) ≡ v.number ∷ numbers_of (length before - (k + 1)) v.session (drop (at + (3 + n)) script)
+      let q : numbers_of (length before - k) s (drop at script) ≡ number ∷ numbers_of (length before - (k + 1)) next (drop (at + (3 + n)) script)
       = rw e (numbers_more s script at (length before - (k + 1)) m l g.number g.session) in
       record {
         within = omega (arith, p.within);
@@ -105,8 +104,9 @@ module _ {script before after : List ℕ} {s : Session} {at k : ℕ} (p : Replay
       let z : numbers_of (length before - k) s (drop at script) ≡ [] = numbers-short (length before - k) s (drop at script) (rw (← r, ← en) w) in
       record { count-is = rw (z, add-zero) at p.count; output = rw z at p.output }
 
-  pub replay-full : length after ≤ k → Replays script before after k
+  pub replay-full : length before ≤ k → Replays script before after (length after)
   replay-full h =
-      let e : length before - k ≡ 0 = omega (arith, p.same_length) in
+      let e : length before - k ≡ 0 = omega (arith, h) in
       let z : numbers_of (length before - k) s (drop at script) ≡ [] = rw e (numbers-none s (drop at script)) in
-      record { count-is = rw (z, add-zero) at p.count; output = rw z at p.output }
+      let f : length after ≡ k = omega (arith, h, p.room, p.same_length) in
+      record { count-is = f ∙ rw (z, add-zero) at p.count; output = rw z at p.output }

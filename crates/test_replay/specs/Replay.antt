@@ -9,7 +9,6 @@ use Rattle.header.specs.Link.{side_of}
 use Rattle.session.specs.declared.Session.{Session}
 use Rattle.session.specs.Session.{fresh_session}
 use Rattle.gate.specs.Verdict.{VerdictTold, verdict_of}
-use Rattle.test_replay.specs.declared.Replayed.{Replayed}
 
 -- ---- a script: for each packet a byte for its sender, two for its size, and its bytes
 
@@ -36,6 +35,6 @@ pub record Replays (script before after : List ℕ) (count : ℕ) : Type 0 where
 -- ---- what the code's types say
 
 -- the session and the number of a verdict; what is handed out is left out
-pub record Gives (r : Replayed) (v : VerdictTold) : Type 0 where
-  pub session : r.session ≡ v.session
-  pub number : r.number ≡ v.number
+pub record Gives (next : Session) (n : ℕ) (v : VerdictTold) : Type 0 where
+  pub session : next ≡ v.session
+  pub number : n ≡ v.number

@@ -1,7 +1,6 @@
 -- Searches of the request table by id, one after the other, each for an id that depends on where the one before it matched.
 -- Assumes nothing: these are definitions.
-use Rattle.std.specs.Prelude.{ℕ, zero, suc, List, [], ◌∷◌, get_or}
-use Rattle.std.proofs.Math.Option.{Option, none, some}
+use Rattle.std.specs.Prelude.{ℕ, zero, suc, List, [], ◌∷◌, get_or, Option, Some, None}
 use Rattle.requests.specs.declared.Request.{Request}
 use Rattle.requests.specs.declared.Requests.{Requests}
 use Rattle.requests.specs.Requests.{fresh_requests, with_request, lowest, Id}
@@ -20,8 +19,8 @@ table_with ids = with_ids fresh_requests 0 ids
 
 -- the id to search for next: what `next` has for the place of the match; 0 where it has none, and where nothing matched
 abbrev pub next_id : List ℕ → Option ℕ → ℕ
-next_id next none = 0
-next_id next (some i) = get_or next i 0
+next_id next None = 0
+next_id next (Some i) = get_or next i 0
 
 -- the id that comes after n searches
 unfoldable pub searched : Requests → List ℕ → ℕ → ℕ → ℕ

@@ -2,38 +2,32 @@
 #![tactic(auto)]
 
 ghost use Rattle.std.specs.Prelude.{◌≡◌};
-ghost use Rattle.requests.specs.Requests.{found_at};
 ghost use Rattle.test_search.specs.Search.{table_with, next_id, searched};
 
-use requests::{FoundPlace, Request, Requests, find_id, fresh, take};
+use requests::{Request, Requests, fresh};
 
 // The table in which requests with these ids wait, one at each place from the first on, as far as there are places.
 fn table_with(ids: &[u64]) -> Requests
     ensures { result ≡ table_with ids.now }
 {
     let mut t = fresh();
-    let mut i: usize = 0;
-    while i < ids.len() {
+    for (i, id) in ids.iter().enumerate() {
         let r = Request {
-            id: ids[i],
+            id: *id,
             kind: 100,
             target: 0,
             length: 0,
         };
-        t = take(t, i, r);
-        i += 1;
+        t.take(i, r);
     }
     t
 }
 
 // The id to search for after a search that found this.
-fn next_id(next: &[u64], found: FoundPlace) -> u64
-    ensures { result ≡ next_id next.now (found_at found) }
+fn next_id(next: &[u64], found: Option<usize>) -> u64
+    ensures { result ≡ next_id next.now found }
 {
-    match found {
-        FoundPlace::AtPlace(i) => { if i < next.len() { next[i] } else { 0 } }
-        FoundPlace::NoPlace => 0,
-    }
+    found.and_then(|i| next.get(i).copied()).unwrap_or(0)
 }
 
 // Makes n searches in the table of these ids: the first for the id `first`, each other for the id that `next` has for the place where the
@@ -44,10 +38,8 @@ pub extern "C" fn test_search(ids: &[u64], next: &[u64], first: u64, n: usize) -
 {
     let t = table_with(ids);
     let mut id = first;
-    let mut k: usize = 0;
-    while k < n {
-        id = next_id(next, find_id(t.used, &t.live, &t.ids, id));
-        k += 1;
+    for _ in 0..n {
+        id = next_id(next, t.find_id(id));
     }
     id
 }

@@ -10,7 +10,7 @@ use mathlib.Core.Path.{◌≡◌, refl, sym, ap, ◌∙◌}
 use mathlib.Core.Bool.{true, false}
 use mathlib.Core.List.{List, [], ◌++◌}
 use lib.ListN.{length, drop, length-append, length-drop, drop_of_length-le}
-use lib.Seq.{sets, length-sets, drop-drop}
+use lib.Seq.{sets, length-sets}
 use borrow.Author.Tests.{eq-eqb, ne_eqb}
 use Rattle.octets.specs.Saturated.{largest, saturated}
 use Rattle.octets.proofs.Integers.{sets-append}
@@ -26,7 +26,6 @@ use Rattle.capture.specs.Lines.{answer_line, Forms}
 use Rattle.capture.proofs.Spelling.{sets-cut}
 use Rattle.transcript.specs.declared.Totals.{Totals}
 use Rattle.transcript.specs.declared.Reported.{Reported}
-use Rattle.transcript.specs.declared.CallReported.{CallReported}
 use Rattle.transcript.specs.Piece.{gives_line, line_for, counted, Report, report_by, report_of, LaysReport, CallReports}
 use Rattle.transcript.proofs.BytesTaken.{call-takes, used-within, used-some, report-empty, report-more}
 
@@ -41,8 +40,8 @@ module _ (t : Totals) (n : ℕ) {x : ℕ} where
 
 module _ (from : Side) (r : Reported) (hold rest out : List ℕ) (a : Offered) {after : List ℕ} (e : outcome (link_of from r.session) a rest after ≡ offer_of from r.session hold rest) where
   pub call-no-line : r.size ≤ largest → gives_line a.answer.number ≡ false
-      → CallReports from r rest out (offer_of from r.session hold rest) (record { reported = record { session = a.session; totals = r.totals; size = r.size }; used = length rest }) after out
-  call-no-line h g = rw (← e) (record { session = refl; totals = rw g refl; size = rw g (omega arith); used = rw g refl; hold = refl; output = rw g refl })
+      → CallReports from r rest out (offer_of from r.session hold rest) (record { session = a.session; totals = r.totals; size = r.size }) (length rest) after out
+  call-no-line h g = rw (← e) (record { session = refl; totals = rw g refl; size = rw g (omega arith); over = rw g refl; hold = refl; output = rw g refl })
 
   pub call-told : {l : Link} {bytes out-after : List ℕ} {h : Header} {t : Totals} {n size : ℕ} → gives_line a.answer.number ≡ true
       → l ≡ link_of from r.session
@@ -51,65 +50,58 @@ module _ (from : Side) (r : Reported) (hold rest out : List ℕ) (a : Offered) {
       → Forms (answer_line from h.kind h.length h.id a.answer.number) r.size out n out-after
       → t ≡ counted r.totals a.answer.number
       → size ≡ saturated r.size n
-      → CallReports from r rest out (offer_of from r.session hold rest) (record { reported = record { session = a.session; totals = t; size = size }; used = a.answer.taken }) after out-after
+      → CallReports from r rest out (offer_of from r.session hold rest) (record { session = a.session; totals = t; size = size }) a.answer.taken after out-after
   call-told {h = h} g el eb eh f et es =
       let p = rw (eh, el, eb) at f in
-      rw (← e) (record { session = refl; totals = rw g et; size = rw g (es ∙ ap (saturated r.size) p.size); used = rw g refl; hold = refl; output = rw g p.output })
+      rw (← e) (record { session = refl; totals = rw g et; size = rw g (es ∙ ap (saturated r.size) p.size); over = rw g refl; hold = refl; output = rw g p.output })
 
 -- ---- a piece
 
--- `at` bytes of the piece are over: the calls still to come, over what there is so far, give what all of them give
-pub record Reporting (from : Side) (r₀ : Reported) (hold₀ piece out₀ hold out : List ℕ) (r : Reported) (at : ℕ) : Type 0 where
-  pub within : at ≤ length piece
+-- the calls still to come, for the rest of the piece and over what there is so far, give what all of them give
+pub record Reporting (from : Side) (r₀ : Reported) (hold₀ piece out₀ hold out : List ℕ) (r : Reported) (rest : List ℕ) : Type 0 where
   pub calls : ℕ
-  pub enough : length piece ≤ at + calls
+  pub enough : length rest ≤ calls
   pub lines : List ℕ
   pub size : r.size ≡ min (length lines) largest
   pub output : out ≡ sets out₀ 0 lines
-  pub all : report_by calls from (record { session = r.session; totals = r.totals; lines = lines; hold = hold }) (drop at piece)
+  pub all : report_by calls from (record { session = r.session; totals = r.totals; lines = lines; hold = hold }) rest
       ≡ report_of from r₀.session r₀.totals hold₀ piece
 
-pub report-starts : {from : Side} {r : Reported} {hold piece out : List ℕ} → r.size ≡ 0 → Reporting from r hold piece out hold out r 0
+pub report-starts : {from : Side} {r : Reported} {hold piece out : List ℕ} → r.size ≡ 0 → Reporting from r hold piece out hold out r piece
 report-starts {piece = piece} z =
-    record { within = omega arith; calls = length piece; enough = omega arith; lines = []; size = omega arith; output = refl; all = refl }
+    record { calls = length piece; enough = omega arith; lines = []; size = omega arith; output = refl; all = refl }
 
-module _ {from : Side} {r₀ : Reported} {hold₀ piece out₀ hold out : List ℕ} {r : Reported} {at : ℕ} (p : Reporting from r₀ hold₀ piece out₀ hold out r at) where
-  module _ {rest hold-after out-after : List ℕ} {c : CallReported} (h : at < length piece) (e : rest ≡ drop at piece)
-      (q : CallReports from r rest out (offer_of from r.session hold rest) c hold-after out-after)
+module _ {from : Side} {r₀ : Reported} {hold₀ piece out₀ hold out : List ℕ} {r : Reported} {rest : List ℕ} (p : Reporting from r₀ hold₀ piece out₀ hold out r rest) where
+  module _ {hold-after out-after : List ℕ} {r-after : Reported} {used : ℕ} (h : 0 < length rest)
+      (q : CallReports from r rest out (offer_of from r.session hold rest) r-after used hold-after out-after)
     where
-      left : length rest ≡ length piece - at
-      left = ap length e ∙ length-drop at piece
+      pub used-few : used ≤ length rest
+      used-few = omega (arith, q.over, used-within (offer_of from r.session hold rest) rest (call-takes from r.session hold rest))
 
-      pub used-few : at + c.used ≤ length piece
-      used-few = omega (arith, q.used, used-within (offer_of from r.session hold rest) rest (call-takes from r.session hold rest), left)
-
-      pub used-more : 0 < c.used
-      used-more = omega (arith, q.used, used-some (offer_of from r.session hold rest) rest (call-takes from r.session hold rest) (omega (arith, left)))
+      pub used-more : 0 < used
+      used-more = omega (arith, q.over, used-some (offer_of from r.session hold rest) rest (call-takes from r.session hold rest) h)
 
       -- a call: its line stands behind the others, one call fewer is to come, and the rest of the piece is that behind what it used up
-      pub report-goes-on : length out₀ ≤ largest → Reporting from r₀ hold₀ piece out₀ hold-after out-after c.reported (at + c.used)
-      report-goes-on few =
+      pub report-goes-on : {left : List ℕ} → length out₀ ≤ largest → left ≡ drop used rest → Reporting from r₀ hold₀ piece out₀ hold-after out-after r-after left
+      report-goes-on few e =
           let o = offer_of from r.session hold rest in
           let line = line_for from (link_of from r.session) o rest in
           let g : Report = record { session = r.session; totals = r.totals; lines = p.lines; hold = hold } in
           let n : p.calls ≡ suc (p.calls - 1) = omega (arith, p.enough) in
-          let d : drop c.used rest ≡ drop (at + c.used) piece = ap (drop c.used) e ∙ drop-drop c.used at piece in
-          record {
-            within = used-few;
+          rw e (record {
             calls = p.calls - 1;
-            enough = omega (arith, p.enough, used-more);
+            enough = omega (arith, p.enough, used-more, length-drop used rest);
             lines = p.lines ++ line;
             size = omega (arith, q.size, p.size, length-append p.lines line);
             output = q.output
                 ∙ rw p.output (sets-cut (sets out₀ 0 p.lines) line r.size (0 + length p.lines) largest (rw length-sets few) (omega (arith, p.size))
                 ∙ sym (sets-append out₀ 0 p.lines line));
-            all = rw (← d, q.used, q.session, q.totals, q.hold)
-                (sym (report-more (p.calls - 1) from g rest (omega (arith, left))) ∙ rw (← n, e) p.all);
-          }
+            all = rw (q.over, q.session, q.totals, q.hold) (sym (report-more (p.calls - 1) from g rest h) ∙ rw (← n) p.all);
+          })
 
-  pub report-ends : length piece ≤ at → LaysReport (report_of from r₀.session r₀.totals hold₀ piece) out₀ r hold out
+  pub report-ends : length rest ≤ 0 → LaysReport (report_of from r₀.session r₀.totals hold₀ piece) out₀ r hold out
   report-ends h =
-      let z : drop at piece ≡ [] = drop_of_length-le piece h in
       let g : Report = record { session = r.session; totals = r.totals; lines = p.lines; hold = hold } in
-      let e : report_by p.calls from g (drop at piece) ≡ g = rw z (report-empty p.calls from g) in
+      let z : rest ≡ [] = drop_of_length-le rest h in
+      let e : report_by p.calls from g rest ≡ g = rw z (report-empty p.calls from g) in
       rw (← p.all, e) (record { session = refl; totals = refl; size = p.size; hold = refl; output = p.output })

@@ -4,12 +4,12 @@
 -- (`newline-there`). The last bytes of the input: they are the last line (`last_line`). More than 4,113 bytes without a newline: the line is bad,
 -- however it goes on (`newline-missing`, `long-bad`), and behind a bad line nothing is looked at.
 -- Assumes nothing.
+use Rattle.std.specs.Prelude.{Option, Some, None}
 use Prim.Native.Nat.{ℕ, suc, ◌%◌, ◌≤◌, ◌<◌}
 use native.Mathlib.Omega.{arith}
 use mathlib.Core.Path.{◌≡◌, refl, sym, ap, ◌∙◌}
 use mathlib.Core.Bool.{Bool, true, false, cond, ◌&&◌, ◌||◌, and-false, false≢true}
 use mathlib.Core.List.{List, [], ◌∷◌, ◌++◌, append-nil}
-use mathlib.Core.Option.{Option, none, some}
 use lib.ListN.{length, take, drop, length-append, length-drop, drop_of_length-le}
 use lib.Seq.{take_all}
 use lib.Dec.{eqb, ltb}
@@ -18,8 +18,6 @@ use Rattle.octets.proofs.Logic.{or_parts}
 use Rattle.header.specs.declared.Side.TheVariants.{Guest, Host}
 use Rattle.capture.specs.Lines.{start_of, starts_with, all_hex, is_spelling, SentPiece, line_of}
 use Rattle.capture.proofs.LineLaws.{offered_bytes, line-short}
-use Rattle.transcript.specs.declared.NextLine.{NextLine}
-use Rattle.transcript.specs.declared.NextLine.TheVariants.{LineEnd, Wait}
 use Rattle.transcript.specs.Input.{Progress, LineStep, step_of, in_front, lines_of, totals_of, output_from, line_end, begins_line, next_of, hold_of}
 use Rattle.transcript.proofs.BytesTaken.{lines-short}
 
@@ -29,13 +27,13 @@ pub prints-short : (p : Progress) (line : List ℕ) → length (step_of p (line_
 prints-short p line = go (line_of line) (line-short line)
   where
     go : (o : Option SentPiece) → length (offered_bytes o) ≤ 2048 → length (step_of p o).prints ≤ 239616
-    go none h = omega arith
-    go (some o) h =
+    go None h = omega arith
+    go (Some o) h =
         omega (arith, lines-short (length o.bytes) o.from (record { session = p.session; totals = p.totals; lines = []; hold = hold_of o.from p }) o.bytes)
 
 -- ---- where a line ends
 
-end-within : (l : List ℕ) → line_end l ≤ length l
+pub end-within : (l : List ℕ) → line_end l ≤ length l
 unfolding line_end
 end-within [] = omega arith
 end-within (b ∷ l) = go (eqb b 10) (end-within l)
@@ -45,36 +43,36 @@ end-within (b ∷ l) = go (eqb b 10) (end-within l)
     go false h = omega arith
 
 module _ (bytes : List ℕ) (last : Bool) where
-  by_next : (P : NextLine → Type 0) → (begins_line bytes last ≡ true → P (LineEnd (line_end bytes))) → (begins_line bytes last ≡ false → P Wait) → P (next_of bytes last)
+  by_next : (P : Option ℕ → Type 0) → (begins_line bytes last ≡ true → P (Some (line_end bytes))) → (begins_line bytes last ≡ false → P None) → P (next_of bytes last)
   by_next P y n = go (begins_line bytes last) refl
     where
-      go : (b : Bool) → begins_line bytes last ≡ b → P (cond b (LineEnd (line_end bytes)) Wait)
+      go : (b : Bool) → begins_line bytes last ≡ b → P (cond b (Some (line_end bytes)) None)
       go true e = y e
       go false e = n e
 
   -- a line that bytes begin with ends where their first newline stands, or with them
-  pub next-is : {k : ℕ} → next_of bytes last ≡ LineEnd k → (begins_line bytes last ≡ true) × (k ≡ line_end bytes)
+  pub next-is : {k : ℕ} → next_of bytes last ≡ Some k → (begins_line bytes last ≡ true) × (k ≡ line_end bytes)
   next-is {k} =
-      by_next (λ x. x ≡ LineEnd k → (begins_line bytes last ≡ true) × (k ≡ line_end bytes))
+      by_next (λ x. x ≡ Some k → (begins_line bytes last ≡ true) × (k ≡ line_end bytes))
       (λ t e. let q : line_end bytes ≡ k = cc in (t, sym q))
       (λ t e. let z : ◌≡◌ {A = ℕ} 0 1 = cc in absurd (omega arith))
 
-  pub next-within : {k : ℕ} → next_of bytes last ≡ LineEnd k → k ≤ length bytes
+  pub next-within : {k : ℕ} → next_of bytes last ≡ Some k → k ≤ length bytes
   next-within e = omega (arith, (next-is e).1, end-within bytes)
 
-  wait-is : next_of bytes last ≡ Wait → begins_line bytes last ≡ false
+  wait-is : next_of bytes last ≡ None → begins_line bytes last ≡ false
   wait-is =
-      by_next (λ x. x ≡ Wait → begins_line bytes last ≡ false)
+      by_next (λ x. x ≡ None → begins_line bytes last ≡ false)
       (λ t e. let z : ◌≡◌ {A = ℕ} 0 1 = cc in absurd (omega arith))
       (λ t e. t)
 
   -- bytes that leave it open are no more than a good line has
-  pub wait-few : next_of bytes last ≡ Wait → length bytes ≤ 4113
+  pub wait-few : next_of bytes last ≡ None → length bytes ≤ 4113
   wait-few e =
       let a = or_parts (ltb (line_end bytes) (length bytes) || ltb 4113 (length bytes)) (last && ltb 0 (length bytes)) (wait-is e) in
       ltb-false 4113 (length bytes) (or_parts (ltb (line_end bytes) (length bytes)) (ltb 4113 (length bytes)) a.0).1
 
-  pub wait-none : last ≡ true → next_of bytes last ≡ Wait → bytes ≡ []
+  pub wait-none : last ≡ true → next_of bytes last ≡ None → bytes ≡ []
   wait-none t e =
       let a = or_parts (ltb (line_end bytes) (length bytes) || ltb 4113 (length bytes)) (last && ltb 0 (length bytes)) (wait-is e) in
       let z : ltb 0 (length bytes) ≡ false = rw t at a.1 in
@@ -150,13 +148,13 @@ last_line b (c ∷ l) h = go (eqb b 10) (last_line c l) h
 no-spelling : (s : List ℕ) → 4096 < length s → is_spelling s ≡ false
 no-spelling s h = rw (lt-leb (length s) 4096 h) (and-false (all_hex s && eqb (length s % 2) 0))
 
-pub long-bad : (line : List ℕ) → 4113 < length line → line_of line ≡ none
+pub long-bad : (line : List ℕ) → 4113 < length line → line_of line ≡ None
 unfolding line_of
 long-bad line h =
     rw (no-spelling (drop 17 line) (omega (arith, length-drop 17 line)), no-spelling (drop 16 line) (omega (arith, length-drop 16 line)))
     (go (starts_with (start_of Guest) line) (starts_with (start_of Host) line))
   where
-    go : (a b : Bool) → ◌≡◌ {A = Option SentPiece} (cond a none (cond b none none)) none
+    go : (a b : Bool) → ◌≡◌ {A = Option SentPiece} (cond a None (cond b None None)) None
     go true b = refl
     go false true = refl
     go false false = refl
@@ -173,7 +171,7 @@ module _ (p : Progress) (more : List ℕ) where
   output-line line lines = refl
 
   -- after a bad line the rest is not looked at
-  same-bad : (x y : List ℕ) (s t : List (List ℕ)) → line_of x ≡ none → line_of y ≡ none → after (step_of p (line_of x)) s ≡ after (step_of p (line_of y)) t
+  same-bad : (x y : List ℕ) (s t : List (List ℕ)) → line_of x ≡ None → line_of y ≡ None → after (step_of p (line_of x)) s ≡ after (step_of p (line_of y)) t
   same-bad x y s t ex ey = rw (ex, ey)
 
   too_long_lem : (bytes : List ℕ) → length bytes ≤ line_end bytes → 4113 < length bytes → (s : List (List ℕ))
@@ -192,7 +190,7 @@ module _ (p : Progress) (more : List ℕ) where
 
   -- Where unread bytes begin with a line, what is printed for all of the input, these bytes and more behind them, is what is printed for
   -- that line and then for what is behind its newline.
-  pub first-line : (bytes : List ℕ) (last : Bool) {k : ℕ} → next_of bytes last ≡ LineEnd k → (last ≡ true → more ≡ [])
+  pub first-line : (bytes : List ℕ) (last : Bool) {k : ℕ} → next_of bytes last ≡ Some k → (last ≡ true → more ≡ [])
       → output_from p (lines_of (bytes ++ more)) ≡ after (step_of p (line_of (take k bytes))) (lines_of (drop (suc k) bytes ++ more))
   unfolding lines_of
   first-line bytes last {k} e none-behind =
@@ -210,6 +208,6 @@ module _ (p : Progress) (more : List ℕ) where
       go false ea false eb false ec d ed t = absurd (false≢true t)
 
   -- At the end nothing is left but the totals.
-  pub last-wait : (bytes : List ℕ) → next_of bytes true ≡ Wait → output_from p (lines_of bytes) ≡ totals_of p
+  pub last-wait : (bytes : List ℕ) → next_of bytes true ≡ None → output_from p (lines_of bytes) ≡ totals_of p
   unfolding output_from lines_of
   last-wait bytes e = rw (wait-none bytes true refl e)

@@ -1,7 +1,6 @@
 -- Document 01, "Report program": what a line gives in a report, and the whole output for a whole input.
 -- Assumes nothing: these are definitions.
-use Rattle.std.specs.Prelude.{ℕ, suc, min, ◌≡◌, Bool, true, false, cond, ◌&&◌, ◌||◌, List, [], ◌∷◌, ◌++◌, length, replicate, eqb, ltb}
-use Rattle.std.proofs.Math.Option.{Option, none, some}
+use Rattle.std.specs.Prelude.{ℕ, suc, min, ◌≡◌, Bool, true, false, cond, ◌&&◌, ◌||◌, List, [], ◌∷◌, ◌++◌, length, replicate, eqb, ltb, Option, Some, None, is_some}
 use Rattle.std.proofs.lemmas.List.Edits.{sets}
 use Rattle.octets.specs.Saturated.{largest}
 use Rattle.header.specs.declared.Side.{Side}
@@ -10,12 +9,9 @@ use Rattle.session.specs.declared.Session.{Session}
 use Rattle.session.specs.Session.{fresh_session}
 use Rattle.capture.specs.declared.Flaw.{Flaw}
 use Rattle.capture.specs.Lines.{SentPiece, line_of, totals_line, bad_line}
-use Rattle.capture.specs.Flaws.{is_flaw}
 use Rattle.transcript.specs.declared.Totals.{Totals}
 use Rattle.transcript.specs.declared.Reported.{Reported}
 use Rattle.transcript.specs.declared.Lined.{Lined}
-use Rattle.transcript.specs.declared.NextLine.{NextLine}
-use Rattle.transcript.specs.declared.NextLine.TheVariants.{LineEnd, Wait}
 use Rattle.transcript.specs.Piece.{Report, report_of}
 use Rattle.header.specs.Header.{hold_size}
 
@@ -48,8 +44,8 @@ pub record LineStep : Type 0 where
 
 -- "An undecodable line prints `line=bad` and ends input"
 abbrev pub step_of : Progress → Option SentPiece → LineStep
-step_of p none = record { next = p; prints = bad_line; bad = true }
-step_of p (some o) = record { next = moved_by o.from p (piece_report p o); prints = (piece_report p o).lines; bad = false }
+step_of p None = record { next = p; prints = bad_line; bad = true }
+step_of p (Some o) = record { next = moved_by o.from p (piece_report p o); prints = (piece_report p o).lines; bad = false }
 
 -- ---- the input
 
@@ -91,8 +87,8 @@ line_end (b ∷ l) = cond (eqb b 10) 0 (suc (line_end l))
 abbrev pub begins_line : List ℕ → Bool → Bool
 begins_line bytes last = ltb (line_end bytes) (length bytes) || ltb 4113 (length bytes) || (last && ltb 0 (length bytes))
 
-abbrev pub next_of : List ℕ → Bool → NextLine
-next_of bytes last = cond (begins_line bytes last) (LineEnd (line_end bytes)) Wait
+abbrev pub next_of : List ℕ → Bool → Option ℕ
+next_of bytes last = cond (begins_line bytes last) (Some (line_end bytes)) None
 
 -- ---- what the code's types say
 
@@ -104,10 +100,10 @@ pub record PieceReports (from : Side) (p : Progress) (piece out : List ℕ) (r :
   pub output : out-after ≡ sets out 0 (piece_report p (record { from = from; bytes = piece })).lines
 
 -- what is printed stands at the front of the output, as far as it goes; told is how many bytes it has, or the largest number, and the
--- line's flaw
-pub record LineReports (g : LineStep) (flaw : Flaw) (out : List ℕ) (r : Lined) (guest-after host-after out-after : List ℕ) : Type 0 where
+-- line's flaw, if it has one
+pub record LineReports (g : LineStep) (flaw : Option Flaw) (out : List ℕ) (r : Lined) (guest-after host-after out-after : List ℕ) : Type 0 where
   pub next : record { session = r.reported.session; totals = r.reported.totals; guest = guest-after; host = host-after } ≡ g.next
   pub size : r.reported.size ≡ min (length g.prints) largest
   pub why : r.flaw ≡ flaw
-  pub bad : is_flaw r.flaw ≡ g.bad
+  pub bad : is_some r.flaw ≡ g.bad
   pub output : out-after ≡ sets out 0 g.prints

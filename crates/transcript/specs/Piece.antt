@@ -13,7 +13,6 @@ use Rattle.gate.specs.Offer.{Outcome, offer_of}
 use Rattle.capture.specs.Lines.{answer_line}
 use Rattle.transcript.specs.declared.Totals.{Totals}
 use Rattle.transcript.specs.declared.Reported.{Reported}
-use Rattle.transcript.specs.declared.CallReported.{CallReported}
 
 -- ---- one call
 
@@ -90,11 +89,11 @@ pub record LaysReport (g : Report) (out : List ℕ) (r : Reported) (hold-after o
   pub hold : hold-after ≡ g.hold
   pub output : out-after ≡ sets out 0 g.lines
 
--- one call, which adds its line behind those of the calls before it
-pub record CallReports (from : Side) (r : Reported) (rest out : List ℕ) (o : Outcome) (c : CallReported) (hold-after out-after : List ℕ) : Type 0 where
-  pub session : c.reported.session ≡ o.session
-  pub totals : c.reported.totals ≡ totals_for r.totals o.number
-  pub size : c.reported.size ≡ saturated r.size (length (line_for from (link_of from r.session) o rest))
-  pub used : c.used ≡ bytes_used o rest
+-- one call, which adds its line behind those of the calls before it; so many bytes are over
+pub record CallReports (from : Side) (r : Reported) (rest out : List ℕ) (o : Outcome) (r-after : Reported) (used : ℕ) (hold-after out-after : List ℕ) : Type 0 where
+  pub session : r-after.session ≡ o.session
+  pub totals : r-after.totals ≡ totals_for r.totals o.number
+  pub size : r-after.size ≡ saturated r.size (length (line_for from (link_of from r.session) o rest))
+  pub over : used ≡ bytes_used o rest
   pub hold : hold-after ≡ o.hold
   pub output : out-after ≡ sets out r.size (line_for from (link_of from r.session) o rest)

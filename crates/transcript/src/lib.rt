@@ -2,17 +2,18 @@
 // session takes no more, and each answer has its line.
 #![tactic(auto)]
 
-ghost use Rattle.std.specs.Prelude.{◌≡◌};
+ghost use Rattle.std.specs.Prelude.{◌≡◌, ◌==◌};
+ghost use Rattle.std.specs.List.{position};
 ghost use Rattle.gate.specs.Offer.{offer_of};
 ghost use Rattle.capture.specs.Lines.{line_of};
 ghost use Rattle.capture.specs.Flaws.{flaw_of};
 ghost use Rattle.transcript.specs.Piece.{gives_line, counted, report_of, LaysReport, CallReports};
 ghost use Rattle.transcript.specs.Input.{step_of, line_end, next_of, PieceReports, LineReports};
 
-use capture::{Flaw, Line, decode_line, form_answer, form_bad};
+use capture::{Flaw, decode_line, form_answer, form_bad};
 use gate::{bytes_of, offer};
 use header::{Side, read_header};
-use octets::{part, saturating_add};
+use octets::part;
 use session::{Session, link_to};
 
 // The answers that have a line: passed, and refused.
@@ -30,85 +31,50 @@ pub struct Reported {
     pub size: usize,
 }
 
-// The same after one call, and the bytes of the piece that are over.
-#[derive(Clone, Copy)]
-struct CallReported {
-    reported: Reported,
-    used: usize,
-}
-
 // The same after an input line, and its flaw.
 #[derive(Clone, Copy)]
 pub struct Lined {
     pub reported: Reported,
-    pub flaw: Flaw,
-}
-
-// What unread input begins with: a line of so many bytes, without its newline; or what comes next has to decide.
-#[derive(Clone, Copy)]
-pub enum NextLine {
-    LineEnd(usize),
-    Wait,
+    pub flaw: Option<Flaw>,
 }
 
 // Every answer but 1, 2, 3, 41 and 43.
 fn gives_line(number: u8) -> bool
     ensures { result ≡ gives_line number }
 {
-    !((number == 1) | (number == 2) | (number == 3) | (number == 41) | (number == 43))
+    !matches!(number, 1 | 2 | 3 | 41 | 43)
 }
 
-fn count(t: Totals, number: u8) -> Totals
-    ensures { result ≡ counted t number }
-{
-    let mut next = t;
-    if number == 0 {
-        next.passed = saturating_add(t.passed, 1);
-    } else {
-        next.refused = saturating_add(t.refused, 1);
+impl Totals {
+    fn count(&mut self, number: u8)
+        ensures { self.new ≡ counted self.old number }
+    {
+        if number == 0 {
+            self.passed = self.passed.saturating_add(1);
+        } else {
+            self.refused = self.refused.saturating_add(1);
+        }
     }
-    next
 }
 
-// Offers what is left of a piece once, and lays the answer's line behind those of the calls before.
-fn report_call(
-    r: Reported,
-    from: Side,
-    hold: &mut [u8],
-    rest: &[u8],
-    out: &mut [u8],
-) -> CallReported
-    ensures { CallReports from r rest.now out.old (offer_of from r.session hold.old rest.now) result hold.new out.new }
-{
-    let before = r.session;
-    let totals = r.totals;
-    let o = offer(before, from, hold, rest);
-    let session = o.session;
-    let answer = o.answer;
-    if !gives_line(answer.number) {
-        let reported = Reported {
-            session,
-            totals,
-            size: r.size,
-        };
-        return CallReported {
-            reported,
-            used: rest.len(),
-        };
-    }
-    let head = before.head;
-    let h = read_header(link_to(head, from), bytes_of(answer, rest, hold));
-    let line = form_answer(out, r.size, from, h.kind, h.length, h.id, answer.number);
-    let totals = count(totals, answer.number);
-    let size = saturating_add(r.size, line);
-    let reported = Reported {
-        session,
-        totals,
-        size,
-    };
-    CallReported {
-        reported,
-        used: answer.taken,
+impl Reported {
+    // Offers what is left of a piece once, and lays the answer's line behind those of the calls before. The bytes that are over are told.
+    fn report_call(&mut self, from: Side, hold: &mut [u8], rest: &[u8], out: &mut [u8]) -> usize
+        ensures { CallReports from self.old rest.now out.old (offer_of from self.old.session hold.old rest.now) self.new result hold.new out.new }
+    {
+        let head = self.session.head;
+        let at = self.size;
+        let o = offer(self.session, from, hold, rest);
+        let answer = o.answer;
+        self.session = o.session;
+        if !gives_line(answer.number) {
+            return rest.len();
+        }
+        let h = read_header(link_to(head, from), bytes_of(answer, rest, hold));
+        let line = form_answer(out, at, from, h.kind, h.length, h.id, answer.number);
+        self.totals.count(answer.number);
+        self.size = at.saturating_add(line);
+        answer.taken
     }
 }
 
@@ -129,11 +95,11 @@ pub fn report_piece(
         totals: t,
         size: 0,
     };
-    let mut at: usize = 0;
-    while at < piece.len() {
-        let c = report_call(r, from, hold, &piece[at..], out);
-        r = c.reported;
-        at = at + c.used;
+    let mut rest = piece;
+    // a turn takes as many bytes as the call says
+    while 0 < rest.len() {
+        let used = r.report_call(from, hold, rest, out);
+        rest = &rest[used..];
     }
     r
 }
@@ -168,49 +134,50 @@ pub fn report_line(
     ensures { LineReports (step_of (record { session = s; totals = t; guest = guest.old; host = host.old }) (line_of line.now)) (flaw_of line.now) out.old result guest.new host.new out.new }
 {
     let mut bytes = [0u8; 2048];
-    let l = decode_line(line, &mut bytes);
-    match l {
-        Line::Bad(flaw) => {
+    match decode_line(line, &mut bytes) {
+        Ok(p) => {
+            let reported = report_from(s, t, p.from, guest, host, part(&bytes, 0, p.size), out);
+            Lined {
+                reported,
+                flaw: None,
+            }
+        }
+        Err(flaw) => {
             let reported = Reported {
                 session: s,
                 totals: t,
                 size: form_bad(out, 0),
             };
-            Lined { reported, flaw }
-        }
-        Line::Piece(from, n) => {
-            let reported = report_from(s, t, from, guest, host, part(&bytes, 0, n), out);
             Lined {
                 reported,
-                flaw: Flaw::Nothing,
+                flaw: Some(flaw),
             }
         }
     }
+}
+
+fn newline(bytes: &[u8]) -> Option<usize>
+    ensures { result ≡ position (λ b. b == 10) bytes.now }
+{
+    bytes.iter().position(|b| *b == b'\n')
 }
 
 // The bytes in front of the first newline; all of them where there is none.
 fn line_end(bytes: &[u8]) -> usize
     ensures { result ≡ line_end bytes.now }
 {
-    let mut i: usize = 0;
-    while i < bytes.len() {
-        if bytes[i] == b'\n' {
-            return i;
-        }
-        i += 1;
-    }
-    i
+    newline(bytes).unwrap_or(bytes.len())
 }
 
 // What unread bytes, the last of the input or not, begin with. More than the longest good line has, 17 and 4,096, are a line.
-pub fn next_line(bytes: &[u8], last: bool) -> NextLine
+pub fn next_line(bytes: &[u8], last: bool) -> Option<usize>
     ensures { result ≡ next_of bytes.now last }
 {
     let end = line_end(bytes);
     let n = bytes.len();
     if (end < n) | (4113 < n) | (last & (0 < n)) {
-        NextLine::LineEnd(end)
+        Some(end)
     } else {
-        NextLine::Wait
+        None
     }
 }

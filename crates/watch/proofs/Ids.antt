@@ -1,17 +1,9 @@
--- The numbers of a row: a difference that wraps is how far ahead an id lies (`distance_is`), that is the number below the width's that leads from the
--- expected id to it (`ahead-leads`, `ahead-below`), and 0 exactly where it is the expected one (`ahead_none`, `ahead-some`); a sum that wraps is the
--- next id (`next-is`). Each is said once over the width and shown at both by arithmetic.
+-- The numbers of a row: how far ahead an id lies is the number below the width's that leads from the expected id to it (`ahead-leads`,
+-- `ahead-below`), and 0 exactly where it is the expected one (`ahead_none`, `ahead-some`). Each is said once over the width and shown at both by
+-- arithmetic.
 -- Assumes nothing.
 use Rattle.std.proofs.Common.{◌≡◌, ℕ, ◌+◌, ◌%◌, ◌<◌, Bool, true, false, arith}
-use Rattle.watch.specs.Watch.{modulus, id_after, ahead}
-
-pub distance_is : (wide : Bool) (r a b : ℕ) → r < modulus wide → (r + b % modulus wide) % modulus wide ≡ a % modulus wide → r ≡ ahead wide b a
-distance_is true r a b h e = omega arith
-distance_is false r a b h e = omega arith
-
-pub next-is : (wide : Bool) (id : ℕ) → (id % modulus wide + 1) % modulus wide ≡ id_after wide id
-next-is true id = omega arith
-next-is false id = omega arith
+use Rattle.watch.specs.Watch.{modulus, ahead}
 
 module _ (wide : Bool) (expected id : ℕ) where
   pub ahead-below : ahead wide expected id < modulus wide

@@ -1,3 +1,3 @@
 pub mod Ids
 pub mod Rows
-pub mod Noted
+pub mod Changed

@@ -3,11 +3,9 @@
 -- force, 32 or 64 bits. An unexpected id counts one break, sets the row's last gap to how far ahead it lies modulo the width, and becomes the new
 -- base." Which packet does what to it is `watch_after` in `session/specs/Step.antt`.
 -- Assumes nothing: these are definitions.
-use Rattle.std.specs.Prelude.{ℕ, ◌+◌, ◌-◌, ◌%◌, ◌^◌, Bool, cond, replicate, ◌==◌, nat_lt, slice_index}
+use Rattle.std.specs.Prelude.{ℕ, ◌+◌, ◌-◌, ◌%◌, ◌^◌, Bool, cond, replicate, ◌==◌, nat_lt, slice_index, Option, Some, None}
 use Rattle.endpoint.specs.declared.Endpoint.{Endpoint}
 use Rattle.endpoint.specs.declared.Row.{Row}
-use Rattle.endpoint.specs.declared.RowOf.{RowOf}
-use Rattle.endpoint.specs.declared.RowOf.TheVariants.{At, Malformed}
 use Rattle.endpoint.specs.Endpoint.{row_of}
 use Rattle.scan.specs.Scan.{put_at}
 use Rattle.watch.specs.declared.Watch.{Watch}
@@ -74,9 +72,9 @@ unfoldable pub index_of : Row → ℕ
 index_of r = cond (nat_lt r.0 16) in_rows (r.0 - 16)
 
 -- and an endpoint's row; a byte that is no address has none
-abbrev pub watched_in : RowOf → ℕ
-watched_in (At r) = index_of r
-watched_in Malformed = in_rows
+abbrev pub watched_in : Option Row → ℕ
+watched_in (Some r) = index_of r
+watched_in None = in_rows
 
 unfoldable pub watched_row : Endpoint → ℕ
 watched_row e = watched_in (row_of e)

@@ -1,19 +1,14 @@
-// The watch on stream packets: of each IN row the id that is expected next, how often another one came, and how far ahead of the expected
-// one the last of these lay.
+// The watch on stream packets: of each IN row the id that is expected next, how often another one came, and how far
+// ahead of the expected one the last of these lay.
 #![tactic(auto)]
 
-ghost use Rattle.std.specs.Prelude.{◌≡◌};
-ghost use Rattle.watch.specs.declared.Watch.{Watch};
-ghost use Rattle.watch.specs.Watch.{start_watch, index_of, watched_row, id_after, ahead, one_more, changed_at, seen_on, begun_on, forgotten, breaks_on, gap_on};
-ghost use Rattle.watch.specs.Columns.{noted, Notes};
+ghost use Rattle.std.specs.Prelude.{◌≡◌, ◌<◌, ◌≤◌, MatchOption};
+ghost use Rattle.watch.specs.Watch.{start_watch, index_of, watched_row, id_after, ahead, seen_on, begun_on, forgotten, breaks_on, gap_on};
 
-use endpoint::{Endpoint, Row, RowOf, row_of};
+use endpoint::{Endpoint, Row, row_of};
 
 // The IN rows, 16 to 31.
 pub const IN_ROWS: usize = 16;
-
-// A count of breaks stops here.
-const MAX_BREAKS: u16 = 65535;
 
 // A column for each thing that is kept of the IN rows; row 16 is the first.
 #[derive(Clone, Copy)]
@@ -27,36 +22,36 @@ pub struct Watch {
 }
 
 // A watch at the start.
+#[tactic(auto, unfolding(crate::specs::Watch::start_watch))]
 pub fn start_watch() -> Watch
     ensures { result ≡ start_watch }
 {
-    let expected: [u64; IN_ROWS] = [0; IN_ROWS];
-    let gaps: [u64; IN_ROWS] = [0; IN_ROWS];
-    let breaks: [u16; IN_ROWS] = [0; IN_ROWS];
     Watch {
-        expected,
-        gaps,
-        breaks,
+        expected: [0; IN_ROWS],
+        gaps: [0; IN_ROWS],
+        breaks: [0; IN_ROWS],
     }
 }
 
-// Where a row stands in the columns, 16 or more where it is no IN row.
-fn index_of(r: Row) -> usize
-    ensures { result ≡ index_of r }
+// Where an IN row stands in the columns; another row is not watched.
+#[tactic(auto, unfolding(crate::specs::Watch::index_of))]
+fn index_of(r: Row) -> Option<usize>
+    ensures { MatchOption result (IN_ROWS ≤ index_of r) (λ i. (i ≡ index_of r) × (i < IN_ROWS)) }
 {
-    let i = r.0 as usize;
-    if i < 16 { IN_ROWS } else { i - 16 }
+    let row = r.0 as usize;
+    if (16..32).contains(&row) {
+        Some(row - 16)
+    } else {
+        None
+    }
 }
 
-// Where an endpoint's row stands in the columns, 16 where it is no IN row.
-pub fn watched_row(e: Endpoint) -> usize
-    ensures { result ≡ watched_row e }
+// Where an endpoint's row stands in the columns, where it is watched.
+#[tactic(auto, unfolding(crate::specs::Watch::watched_row))]
+fn watched_row(e: Endpoint) -> Option<usize>
+    ensures { MatchOption result (IN_ROWS ≤ watched_row e) (λ i. (i ≡ watched_row e) × (i < IN_ROWS)) }
 {
-    let found = row_of(e);
-    match found {
-        RowOf::At(r) => index_of(r),
-        RowOf::Malformed => IN_ROWS,
-    }
+    index_of(row_of(e)?)
 }
 
 // The id after this one, at the width in force.
@@ -64,9 +59,9 @@ fn id_after(wide: bool, id: u64) -> u64
     ensures { result ≡ id_after wide id }
 {
     if wide {
-        std::num::wrapping_add_u64(id, 1)
+        id.wrapping_add(1)
     } else {
-        std::num::wrapping_add_u32((id % 4294967296) as u32, 1) as u64
+        ((id % 4294967296) as u32).wrapping_add(1) as u64
     }
 }
 
@@ -75,104 +70,64 @@ fn distance(wide: bool, expected: u64, id: u64) -> u64
     ensures { result ≡ ahead wide expected id }
 {
     if wide {
-        std::num::wrapping_sub_u64(id, expected)
+        id.wrapping_sub(expected)
     } else {
-        std::num::wrapping_sub_u32((id % 4294967296) as u32, (expected % 4294967296) as u32) as u64
+        ((id % 4294967296) as u32).wrapping_sub((expected % 4294967296) as u32) as u64
     }
 }
 
-fn one_more(n: u16) -> u16
-    ensures { result ≡ one_more n }
-{
-    if n < MAX_BREAKS { n + 1 } else { n }
-}
-
-// Notes what a packet that passed says of row i of the columns, which are lent: a packet with this id was seen there, or its ids begin
-// anew. Past the last row nothing is noted.
-pub fn note(
-    i: usize,
-    seen: bool,
-    wide: bool,
-    id: u64,
-    expected: &mut [u64; IN_ROWS],
-    gaps: &mut [u64; IN_ROWS],
-    breaks: &mut [u16; IN_ROWS],
-)
-    ensures { Notes (record { expected = expected.entry.now; gaps = gaps.old; breaks = breaks.old }) i (noted seen wide id) (record { expected = expected.exit.now; gaps = gaps.new; breaks = breaks.new }) }
-{
-    if i < IN_ROWS {
-        if seen {
-            let d = distance(wide, expected[i], id);
-            expected[i] = id_after(wide, id);
-            if d != 0 {
-                gaps[i] = d;
-                breaks[i] = one_more(breaks[i]);
+impl Watch {
+    // A packet with this id was seen on an endpoint. A count of breaks stops at 65,535.
+    pub fn see(&mut self, e: Endpoint, wide: bool, id: u64)
+        ensures { self.new ≡ seen_on wide id self.old e }
+    {
+        if let Some(i) = watched_row(e) {
+            let gap = distance(wide, self.expected[i], id);
+            self.expected[i] = id_after(wide, id);
+            if gap != 0 {
+                self.gaps[i] = gap;
+                self.breaks[i] = self.breaks[i].saturating_add(1);
             }
-        } else {
-            expected[i] = 0;
         }
     }
-}
 
-// A watch with what a packet that passed says of an endpoint.
-fn note_on(w: Watch, e: Endpoint, seen: bool, wide: bool, id: u64) -> Watch
-    ensures { result ≡ changed_at (noted seen wide id) w (watched_row e) }
-{
-    let mut expected = w.expected;
-    let mut gaps = w.gaps;
-    let mut breaks = w.breaks;
-    note(
-        watched_row(e),
-        seen,
-        wide,
-        id,
-        &mut expected,
-        &mut gaps,
-        &mut breaks,
-    );
-    Watch {
-        expected,
-        gaps,
-        breaks,
+    // The ids of an endpoint begin anew: 0 is expected.
+    pub fn begin(&mut self, e: Endpoint)
+        ensures { self.new ≡ begun_on self.old e }
+    {
+        if let Some(i) = watched_row(e) {
+            self.expected[i] = 0;
+        }
     }
-}
 
-// A packet with this id was seen on an endpoint.
-pub fn see(w: Watch, e: Endpoint, wide: bool, id: u64) -> Watch
-    ensures { result ≡ seen_on wide id w e }
-{
-    note_on(w, e, true, wide, id)
-}
+    // On every row 0 is expected; counts and gaps stay.
+    #[tactic(auto, unfolding(crate::specs::Watch::forgotten))]
+    pub fn forget(&mut self)
+        ensures { self.new ≡ forgotten self.old }
+    {
+        self.expected = [0; IN_ROWS];
+    }
 
-// The ids of an endpoint begin anew: 0 is expected.
-pub fn begin(w: Watch, e: Endpoint) -> Watch
-    ensures { result ≡ begun_on w e }
-{
-    note_on(w, e, false, false, 0)
-}
+    // How many packets of a row had another id than the expected one; 0 for a row that is not watched.
+    #[tactic(auto, unfolding(crate::specs::Watch::breaks_on))]
+    pub fn breaks_on(&self, r: Row) -> u16
+        ensures { result ≡ breaks_on self.now r }
+    {
+        match index_of(r) {
+            Some(i) => self.breaks[i],
+            None => 0,
+        }
+    }
 
-// On every row 0 is expected; counts and gaps stay.
-pub fn forget(w: Watch) -> Watch
-    ensures { result ≡ forgotten w }
-{
-    let expected: [u64; IN_ROWS] = [0; IN_ROWS];
-    let mut out = w;
-    out.expected = expected;
-    out
-}
-
-// How many packets of a row had another id than the expected one; 0 for a row that is not watched.
-pub fn breaks_at(breaks: &[u16; IN_ROWS], r: Row) -> u16
-    ensures { (w : Watch) → w.breaks ≡ breaks.now → result ≡ breaks_on w r }
-{
-    let i = index_of(r);
-    if i < IN_ROWS { breaks[i] } else { 0 }
-}
-
-// How far ahead of the expected id the last packet of a row lay that had another; 0 where none had, and for a row that is not watched.
-pub fn gap_at(gaps: &[u64; IN_ROWS], r: Row) -> u64
-    ensures { (w : Watch) → w.gaps ≡ gaps.now → result ≡ gap_on w r }
-{
-    let i = index_of(r);
-    if i < IN_ROWS { gaps[i] } else { 0 }
+    // How far ahead of the expected id the last packet of a row lay that had another; 0 where none had, and for a row
+    // that is not watched.
+    #[tactic(auto, unfolding(crate::specs::Watch::gap_on))]
+    pub fn gap_on(&self, r: Row) -> u64
+        ensures { result ≡ gap_on self.now r }
+    {
+        match index_of(r) {
+            Some(i) => self.gaps[i],
+            None => 0,
+        }
+    }
 }

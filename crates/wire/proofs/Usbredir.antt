@@ -4,10 +4,9 @@
 -- The header's laws and the round trip give the laws, and `Prefix.antt` the rest. What is not allowed is no hello: 10 or 11
 -- refuses its header, or 21 or 22 what is not shared; a missing field or a stream without bit 0 breaks a field rule, 24, if none of 21 to 23 comes first.
 -- Assumes nothing.
-use Rattle.std.specs.Prelude.{ℕ, ◌+◌, ◌≤◌, ◌≡◌, refl, Bool, true, false, cond, not, ◌&&◌, ◌||◌, List, [], ◌∷◌, ◌++◌, length, drop, eqb, ltb}
+use Rattle.std.specs.Prelude.{ℕ, ◌+◌, ◌≤◌, ◌≡◌, refl, Bool, true, false, cond, not, ◌&&◌, ◌||◌, List, [], ◌∷◌, ◌++◌, length, drop, eqb, ltb, Option, Some, None}
 use Rattle.std.proofs.Common.{arith, sym, ap, ap₂, ◌∙◌, true≢false, eqb-true, ne_eqb}
 use Rattle.std.proofs.lemmas.Bool.{false≢true}
-use Rattle.std.proofs.Math.Option.{Option, none, some}
 use borrow.Table.Steps.{cases}
 use Rattle.octets.specs.Bits.{has_bit}
 use Rattle.octets.proofs.Integers.{le-front}
@@ -46,10 +45,10 @@ good l p a =
     record { size = r.size; header = r.header; wire = r.number; back = r.back }
 
 -- values that fit their fields: one that is not there has none
-absent-field : (b : Bool) (w n : ℕ) (v : Value) → FitField b w n v → b ≡ false → v ≡ none
+absent-field : (b : Bool) (w n : ℕ) (v : Value) → FitField b w n v → b ≡ false → v ≡ None
 absent-field true w n v h e = absurd (false≢true (sym e))
-absent-field false w n none h e = refl
-absent-field false w n (some xs) h e = absurd h
+absent-field false w n None h e = refl
+absent-field false w n (Some xs) h e = absurd h
 
 absent-in : (has : Bits → Bool) (fs : List Field) (vs : List Value) → Fit has fs vs → AbsentIn has fs vs
 absent-in has [] vs h = tt
@@ -87,14 +86,14 @@ same_lists l = apart usbredir laws l
 pub hello-fields : (caps : ℕ) (vs : List Value) → surplus caps (kind_at 0).fields vs ≡ false
 unfolding kinds
 hello-fields caps [] = refl
-hello-fields caps (none ∷ vs) = refl
-hello-fields caps (some xs ∷ vs) = refl
+hello-fields caps (None ∷ vs) = refl
+hello-fields caps (Some xs ∷ vs) = refl
 
 hello-there : (caps : ℕ) (vs : List Value) → missing caps (kind_at 0).fields vs ≡ false
 unfolding kinds
 hello-there caps [] = refl
-hello-there caps (none ∷ vs) = refl
-hello-there caps (some xs ∷ vs) = refl
+hello-there caps (None ∷ vs) = refl
+hello-there caps (Some xs ∷ vs) = refl
 
 -- so neither holds of one
 hello-shared : (l : Link) (p : Content) → p.kind ≡ 0 → unshared l (find p.kind kinds) p ≡ false
@@ -116,15 +115,15 @@ next-good from caps e f fs v vs at b = is_none-right (bad_field from caps e f v 
 missing-bad : (from : Side) (caps e : ℕ) (fs : List Field) (vs : List Value) (at : ℕ) → missing caps fs vs ≡ true → is_none (bad_fields from caps e fs vs at) ≡ true → ⊥
 missing-bad from caps e [] vs at m b = false≢true m
 missing-bad from caps e (f ∷ fs) [] at m b = false≢true m
-missing-bad from caps e (f ∷ fs) (none ∷ vs) at m b =
-    go (depends f.there) (shared caps f.there) m (is_none-left (bad_field from caps e f none at) (bad_fields from caps e fs vs (at + size_of (shared caps) f)) b)
-    (λ t. missing-bad from caps e fs vs (at + size_of (shared caps) f) t (next-good from caps e f fs none vs at b))
+missing-bad from caps e (f ∷ fs) (None ∷ vs) at m b =
+    go (depends f.there) (shared caps f.there) m (is_none-left (bad_field from caps e f None at) (bad_fields from caps e fs vs (at + size_of (shared caps) f)) b)
+    (λ t. missing-bad from caps e fs vs (at + size_of (shared caps) f) t (next-good from caps e f fs None vs at b))
   where
-    go : (a c : Bool) → ((a && c) || missing caps fs vs) ≡ true → is_none (cond c (some at) none) ≡ true → (missing caps fs vs ≡ true → ⊥) → ⊥
+    go : (a c : Bool) → ((a && c) || missing caps fs vs) ≡ true → is_none (cond c (Some at) None) ≡ true → (missing caps fs vs ≡ true → ⊥) → ⊥
     go true true t z r = false≢true z
     go true false t z r = r t
     go false c t z r = r t
-missing-bad from caps e (f ∷ fs) (some xs ∷ vs) at m b = missing-bad from caps e fs vs (at + size_of (shared caps) f) m (next-good from caps e f fs (some xs) vs at b)
+missing-bad from caps e (f ∷ fs) (Some xs ∷ vs) at m b = missing-bad from caps e fs vs (at + size_of (shared caps) f) m (next-good from caps e f fs (Some xs) vs at b)
 
 -- and so does a stream in kind 101 without bit 0
 stream-zero : (from : Side) (caps e : ℕ) (vs : List Value) (at : ℕ) → has_bit caps 0 ≡ false → is_none (bad_fields from caps e (layout 101) vs at) ≡ true → named "stream" (layout 101) vs ≡ 0
@@ -133,12 +132,12 @@ stream-zero from caps e [] at h b = refl
 stream-zero from caps e (u ∷ []) at h b = refl
 stream-zero from caps e (u ∷ v ∷ []) at h b = refl
 stream-zero from caps e (u ∷ v ∷ w ∷ []) at h b = refl
-stream-zero from caps e (u ∷ v ∷ w ∷ none ∷ vs) at h b = refl
-stream-zero from caps e (u ∷ v ∷ w ∷ some [] ∷ vs) at h b = refl
-stream-zero from caps e (u ∷ v ∷ w ∷ some (x ∷ xs) ∷ vs) at h b =
-    let c = next-good from caps e (u8 "endpoint" is endpoint) (drop 1 (layout 101)) u (v ∷ w ∷ some (x ∷ xs) ∷ vs) at b in
-    let d = next-good from caps e (u8 "status") (drop 2 (layout 101)) v (w ∷ some (x ∷ xs) ∷ vs) (at + 1) c in
-    let f = next-good from caps e (u16 "length") (drop 3 (layout 101)) w (some (x ∷ xs) ∷ vs) (at + 1 + 1) d in
+stream-zero from caps e (u ∷ v ∷ w ∷ None ∷ vs) at h b = refl
+stream-zero from caps e (u ∷ v ∷ w ∷ Some [] ∷ vs) at h b = refl
+stream-zero from caps e (u ∷ v ∷ w ∷ Some (x ∷ xs) ∷ vs) at h b =
+    let c = next-good from caps e (u8 "endpoint" is endpoint) (drop 1 (layout 101)) u (v ∷ w ∷ Some (x ∷ xs) ∷ vs) at b in
+    let d = next-good from caps e (u8 "status") (drop 2 (layout 101)) v (w ∷ Some (x ∷ xs) ∷ vs) (at + 1) c in
+    let f = next-good from caps e (u16 "length") (drop 3 (layout 101)) w (Some (x ∷ xs) ∷ vs) (at + 1 + 1) d in
     let good = first_good from caps e (u32 "stream" is zero-without 0) (drop 4 (layout 101)) (x ∷ xs) vs (at + 1 + 1 + 2) f 0 (omega arith) in
     eqb-true x 0 (rw h at good)
 
@@ -150,7 +149,7 @@ stream-bad from caps e p s b =
     (λ h. false≢true (rw (stream-zero from caps e p.fields 0 h b) at (and_parts (eqb p.kind 101 && not (has_bit caps 0)) (not (eqb stream 0)) s).1))
 
 -- what misses a field or has a stream so breaks a field rule
-unsuited-bad : (l : Link) (p : Content) (k : Kind) → find p.kind kinds ≡ some k → unsuited l (some k) p ≡ true → not (is_none (bad l.sender (shared_set l) k p)) ≡ true
+unsuited-bad : (l : Link) (p : Content) (k : Kind) → find p.kind kinds ≡ Some k → unsuited l (Some k) p ≡ true → not (is_none (bad l.sender (shared_set l) k p)) ≡ true
 unfolding bad layout
 unsuited-bad l p k f m =
     let caps : ℕ = shared_set l in
@@ -189,9 +188,9 @@ unshared-number P l p n10 n11 n21 n22 u = later-number P l p (λ k. true≢false
     ordered false false c d e t = absurd (false≢true t)
 
     known : (k : Option Kind) → unshared l k p ≡ true → P (by_kind l k p)
-    known none t = absurd (false≢true t)
-    known (some k) t =
-        ordered (not (sends k.sender l.sender)) (unshared l (some k) p) (not (size_ok l.sender k p)) (not (is_none (bad l.sender (shared_set l) k p))) (streams_alone k.tail p.rest) t
+    known None t = absurd (false≢true t)
+    known (Some k) t =
+        ordered (not (sends k.sender l.sender)) (unshared l (Some k) p) (not (size_ok l.sender k p)) (not (is_none (bad l.sender (shared_set l) k p))) (streams_alone k.tail p.rest) t
 
 -- and 10 and 21 to 24 those of one with a field that does not suit what is shared
 pub unsuited-number : (P : ℕ → Type 0) (l : Link) (p : Content) → P 10 → (passed (own l) ≡ false → P 11) → P 21 → P 22 → P 23 → P 24 → Unsuited l p → P (packet_number l p)
@@ -206,7 +205,7 @@ unsuited-number P l p n10 n11 n21 n22 n23 n24 u = later-number P l p (λ k. true
     ordered false false false false e t = absurd (false≢true t)
 
     known : (k : Option Kind) → find p.kind kinds ≡ k → unsuited l k p ≡ true → P (by_kind l k p)
-    known none f t = absurd (false≢true t)
-    known (some k) f t =
-        ordered (not (sends k.sender l.sender)) (unshared l (some k) p) (not (size_ok l.sender k p)) (not (is_none (bad l.sender (shared_set l) k p))) (streams_alone k.tail p.rest)
+    known None f t = absurd (false≢true t)
+    known (Some k) f t =
+        ordered (not (sends k.sender l.sender)) (unshared l (Some k) p) (not (size_ok l.sender k p)) (not (is_none (bad l.sender (shared_set l) k p))) (streams_alone k.tail p.rest)
         (unsuited-bad l p k f t)

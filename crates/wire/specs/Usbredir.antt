@@ -1,8 +1,7 @@
 -- usbredir packets as a wire layer: its parts are header's and kinds' definitions. That it has the laws, and that what the shared set doesn't
 -- allow is refused by number, is in `proofs/Usbredir.antt`.
 -- Assumes nothing: these are definitions.
-use Rattle.std.specs.Prelude.{ℕ, ◌≡◌, Bool, true, false, not, ◌&&◌, ◌||◌, List, [], ◌∷◌, eqb}
-use Rattle.std.proofs.Math.Option.{Option, none, some}
+use Rattle.std.specs.Prelude.{ℕ, ◌≡◌, Bool, true, false, not, ◌&&◌, ◌||◌, List, [], ◌∷◌, eqb, Option, Some, None}
 use Rattle.octets.specs.Bits.{has_bit}
 use Rattle.header.specs.declared.Link.{Link}
 use Rattle.header.specs.Link.{shared_set}
@@ -17,7 +16,7 @@ use Rattle.wire.specs.Wire.{Wire}
 abbrev pub AbsentIn : (Bits → Bool) → List Field → List Value → Type 0
 AbsentIn has [] vs = Unit {0}
 AbsentIn has (f ∷ fs) [] = ⊥
-AbsentIn has (f ∷ fs) (v ∷ vs) = (has f.there ≡ false → v ≡ none) × AbsentIn has fs vs
+AbsentIn has (f ∷ fs) (v ∷ vs) = (has f.there ≡ false → v ≡ None) × AbsentIn has fs vs
 
 -- "each field not shared is shown as absent"
 abbrev pub Absent : Link → Content → Type 0
@@ -26,8 +25,8 @@ Absent l p = AbsentIn (shared (shared_set l)) (layout p.kind) p.fields
 -- what the shared set doesn't allow in a packet of a known kind: "needed bit not shared", "a field that the shared set leaves out ..
 -- but is present" (of a "bulk count over 65,535 without bit 6" the high part), "a non-hello's id over 32 bits without bit 5"
 abbrev pub unshared : Link → Option Kind → Content → Bool
-unshared l none p = false
-unshared l (some k) p = not (shared (shared_set l) k.needs) || surplus (shared_set l) k.fields p.fields || wide_id l p
+unshared l None p = false
+unshared l (Some k) p = not (shared (shared_set l) k.needs) || surplus (shared_set l) k.fields p.fields || wide_id l p
 
 abbrev pub Unshared : Link → Content → Type 0
 Unshared l p = unshared l (find p.kind kinds) p ≡ true
@@ -42,16 +41,16 @@ depends (bits j k) = true
 abbrev pub missing : ℕ → List Field → List Value → Bool
 missing caps [] vs = false
 missing caps (f ∷ fs) [] = false
-missing caps (f ∷ fs) (none ∷ vs) = (depends f.there && shared caps f.there) || missing caps fs vs
-missing caps (f ∷ fs) (some xs ∷ vs) = missing caps fs vs
+missing caps (f ∷ fs) (None ∷ vs) = (depends f.there && shared caps f.there) || missing caps fs vs
+missing caps (f ∷ fs) (Some xs ∷ vs) = missing caps fs vs
 
 -- "Stream is 0 in kind 101 without bit 0."
 abbrev pub stream_unshared : ℕ → List Field → Content → Bool
 stream_unshared caps fs p = eqb p.kind 101 && not (has_bit caps 0) && not (eqb (named "stream" fs p.fields) 0)
 
 abbrev pub unsuited : Link → Option Kind → Content → Bool
-unsuited l none p = false
-unsuited l (some k) p = missing (shared_set l) k.fields p.fields || stream_unshared (shared_set l) k.fields p
+unsuited l None p = false
+unsuited l (Some k) p = missing (shared_set l) k.fields p.fields || stream_unshared (shared_set l) k.fields p
 
 abbrev pub Unsuited : Link → Content → Type 0
 Unsuited l p = unsuited l (find p.kind kinds) p ≡ true

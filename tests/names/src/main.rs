@@ -17,7 +17,7 @@ use tools::Count;
 use names::{glob, Names};
 
 /// Words in backticks that are no names of the repository; they are left unchecked.
-const ALLOWED: [&str; 20] = [
+const ALLOWED: [&str; 21] = [
     "abbrev",            // a keyword of antt
     "bit_and",           // and of two numbers, from the toolchain's library
     "cargo",             // the tool that builds the tests
@@ -30,9 +30,10 @@ const ALLOWED: [&str; 20] = [
     "memcpy",            // a C function
     "nat_le",            // a test of numbers, from the toolchain's library
     "nat_lt",            // a test of numbers
-    "none",              // a constructor of Option, from the toolchain's library
+    "Option",            // a type of the toolchain's library
     "requires",          // a keyword of Rattle
     "result",            // in a clause, what the function returns
+    "Result",            // a type of the toolchain's library
     "rt",                // the toolchain's command
     "target/bin/report", // the program that is built, no file of the repository
     "unfoldable",        // a keyword of antt
@@ -41,8 +42,8 @@ const ALLOWED: [&str; 20] = [
 ];
 /// Patterns of the documents' paths.
 const DOCUMENTS: &str = "README.md docs/*.md tests/*/README.md bench/README.md";
-/// A page that gives names as they were before beside those of today.
-const OLD_NAMES: &str = "docs/PORT.md";
+/// Pages that give names as they were before beside those of today.
+const OLD_NAMES: [&str; 2] = ["docs/PORT.md", "docs/DESIGN-PASS.md"];
 
 #[derive(Default)]
 struct Tests {
@@ -93,7 +94,8 @@ fn main() -> ExitCode {
     let names = Names::collect(&root);
     let mut tests = Tests::default();
     let is_document = |path: &&String| {
-        DOCUMENTS.split(' ').any(|pattern| glob(pattern, path)) && *path != OLD_NAMES
+        DOCUMENTS.split(' ').any(|pattern| glob(pattern, path))
+            && !OLD_NAMES.contains(&path.as_str())
     };
     for path in names.files.iter().filter(is_document) {
         tests.document(path, &read(path), &names);

@@ -1,11 +1,7 @@
--- `capture::decode_piece` meets its contract: by whether the digits have a flaw.
+-- `capture::decode_piece` meets its contract: digits without a flaw are a spelling.
 -- Assumes nothing.
-use mathlib.Core.Path.{sym, ◌∙◌}
-use borrow.Author.Rules.{rules}
-use Rattle.capture.proofs.Spelling.{decodes-piece, decodes-nothing}
+use Rattle.capture.proofs.Spelling.{decodes-piece}
 use Rattle.capture.proofs.decode_piece.Goals as goal
 
 pub returns : goal.returns
-returns c =
-    let a = c.args in
-    decodes-piece a.from a.s.now c.digits_flaw-flaw.ensures (sym c.is_flaw.ensures ∙ c.if-is_flaw.false) c.lay_spelt.ensures
+returns c = decodes-piece c.args.from c.args.s.now c.in_ok-test_digits.ensures c.lay_spelt.ensures

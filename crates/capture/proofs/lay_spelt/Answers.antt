@@ -1,24 +1,19 @@
 -- `capture::lay_spelt` meets its contract: the bytes still to be spelt, over what has been laid, give what all of them give.
 -- Assumes nothing.
-use mathlib.Core.Path.{◌≡◌, refl, sym, ap, ◌∙◌}
-use Prim.Native.Nat.{ℕ, ◌-◌, ◌*◌, ◌%◌, ◌≤◌}
+use mathlib.Core.Path.{◌≡◌, sym, ap, ◌∙◌}
+use Prim.Native.Nat.{ℕ, ◌%◌}
 use native.Mathlib.Omega.{arith}
-use lib.ListN.{length, drop, set, length-set}
-use lib.Seq.{sets}
-use Rattle.capture.specs.Lines.{spelt}
+use lib.ListN.{set}
 use Rattle.capture.proofs.Spelling.{spelt-ends, spelt-step}
 use Rattle.capture.proofs.lay_spelt.Goals as goal
 
 pub loop-i-preserved : goal.loop-i-preserved
 loop-i-preserved c =
     let l = c.loop-i in
-    let a = c.args in
     let r = c.hex_pair in
     let e : r.result % 256 ≡ r.result = omega arith in
     let st = c.put.ensures ∙ ap (λ (x : ℕ). set l.out l.i x) e in
-    (omega arith, (rw (st, length-set) l.invariant.1.0, rw st (sym (spelt-step l.out a.s.now l.i r.result (omega arith) r.ensures) ∙ l.invariant.1.1)))
+    rw st (sym (spelt-step l.out c.args.s.now l.i r.result (omega arith) r.ensures) ∙ l.invariant)
 
 pub returns : goal.returns
-returns c =
-    let l = c.loop-i in
-    rw (spelt-ends c.args.s.now l.i c.loop-i-test.false) at l.invariant.1.1
+returns c = rw (spelt-ends c.args.s.now c.loop-i.i (omega arith)) at c.loop-i.invariant

@@ -2,7 +2,6 @@
 -- (`kinds/specs/Slots`), and a body of a known kind is read by it (`Told`).
 -- Assumes nothing.
 use native.Mathlib.Omega.{arith}
-use borrow.Author.Rules.{rules}
 use Rattle.kinds.specs.Slots.{low, between, above}
 use Rattle.decoder.proofs.Told.{behind-unknown, behind-known}
 use Rattle.decoder.proofs.read_behind.Goals as goal

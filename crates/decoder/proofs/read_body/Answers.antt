@@ -2,14 +2,13 @@
 -- Assumes nothing.
 use mathlib.Core.Path.{refl}
 use Rattle.decoder.proofs.EachKind.{reads-by, last, hello, connect, disconnect, reset, interface-table, endpoint_table_packet, set-configuration, get-configuration, configuration-status, set_alt, get-alt, alt_status, start_iso, stop_iso, iso_status, start_interrupt, stop-interrupt, interrupt-status, alloc-streams, free-streams, streams-status, cancel, filter-reject, filter, disconnect-ack, start-bulk-receiving, stop-bulk-receiving, bulk-receiving-status}
-use borrow.Author.Rules.{rules}
 use Rattle.decoder.proofs.read_body.Goals as goal
 
 pub returns-in-0 : goal.returns-in-0
 returns-in-0 c = reads-by (hello _ _) c.requires c.in-0.is (rw (c.after.ensures, c.part_at.ensures))
 
 pub returns-in-1 : goal.returns-in-1
-returns-in-1 c = reads-by (connect _ _) c.requires c.in-1.is (rw (c.given16.ensures, c.get16-in-1-2.ensures, c.has_bit.ensures, c.get16-in-1.ensures, c.get16.ensures, c.get8-in-1-3.ensures, c.get8-in-1-2.ensures, c.get8-in-1.ensures, c.get8.ensures))
+returns-in-1 c = reads-by (connect _ _) c.requires c.in-1.is (rw (c.then_some.ensures, c.get16-in-1-2.ensures, c.has_bit.ensures, c.get16-in-1.ensures, c.get16.ensures, c.get8-in-1-3.ensures, c.get8-in-1-2.ensures, c.get8-in-1.ensures, c.get8.ensures))
 
 pub returns-in-2 : goal.returns-in-2
 returns-in-2 c = reads-by (disconnect _ _) c.requires c.in-2.is refl

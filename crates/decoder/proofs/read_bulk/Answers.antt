@@ -1,37 +1,33 @@
--- `decoder::read_bulk` meets its contract: a body that lacks a field has the number of a wrong size (`WrongSize`), and any other is read as the table
--- reads it (`WithData`), so that its packet has the body's number (`Told`).
+-- `decoder::read_bulk` meets its contract: a body that has its fields is read as the table reads it (`WithData`), so that its packet has the body's
+-- number (`Told`).
 -- Assumes nothing.
 use lib.Dec.{lit<}
-use borrow.Author.Rules.{rules}
-use Rattle.decoder.proofs.Told.{size-refused, packet-read}
+use Rattle.std.proofs.lemmas.Result.{err_from_is_err_and}
+use Rattle.decoder.proofs.Told.{packet-refused, packet-read}
 use Rattle.decoder.proofs.WithData.{bulk, size-bulk}
-use Rattle.decoder.proofs.WrongSize.{lacks}
 use Rattle.decoder.proofs.read_bulk.Goals as goal
 
-pub returns-then-body-head : goal.returns-then-body-head
-returns-then-body-head c =
+pub check_fields-requires : goal.check_fields-requires
+check_fields-requires c = (lit< tt, rw (c.bulk_fields-fields.ensures, c.shared_set-caps.ensures) (size-bulk _))
+
+pub returns-in_err-check_bulk : goal.returns-in_err-check_bulk
+returns-in_err-check_bulk c =
     let a = c.args in
-    let m = c.size_number.ensures in
-    let t = rw (c.choose-head.ensures, c.has_bit.ensures, c.shared_set-caps.ensures, size-bulk) at c.if-body-head.true in
-    size-refused a.l a.h m.0 (lacks a.l 29 a.h.id a.body.now (lit< tt) m.1 t)
+    let k = c.bulk_fields-fields.ensures in
+    let s = c.shared_set-caps.ensures in
+    let e = err_from_is_err_and c.from_residual-in_err-check_bulk.result c.from_residual-in_err-check_bulk.ensures.1 in
+    rw (e.1, e.2)
+    (packet-refused a.l a.h
+    (rw (c.after.ensures, c.get32.ensures, c.bulk_count.ensures.0, c.get8-2.ensures, c.get8.ensures, k, s)
+    (bulk _ _ c.bulk_count.ensures.1 (rw (k, s) at c.in_ok-check_fields.ensures)))
+    c.in_err-check_bulk.ensures)
 
 pub returns : goal.returns
 returns c =
     let a = c.args in
-    let k = c.choose-head.ensures in
-    let b = c.has_bit.ensures in
-    let e = c.shared_set-caps.ensures in
-    rw c.finish.ensures
-    (packet-read a.l a.h
-    (rw (
-      c.after-payload.ensures,
-      c.get32-stream.ensures,
-      c.bulk_count-length.ensures.0,
-      c.get8-status.ensures,
-      c.get8.ensures,
-      k,
-      b,
-      e,
-    )
-    (bulk _ _ c.bulk_count-length.ensures.1 (rw (k, b, e) at c.if-body-head.false)))
-    c.bulk_number.ensures)
+    let k = c.bulk_fields-fields.ensures in
+    let s = c.shared_set-caps.ensures in
+    packet-read a.l a.h
+    (rw (c.after.ensures, c.get32.ensures, c.bulk_count.ensures.0, c.get8-2.ensures, c.get8.ensures, k, s)
+    (bulk _ _ c.bulk_count.ensures.1 (rw (k, s) at c.in_ok-check_fields.ensures)))
+    c.in_ok-check_bulk.ensures

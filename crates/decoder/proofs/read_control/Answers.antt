@@ -1,35 +1,26 @@
--- `decoder::read_control` meets its contract: a body that lacks a field has the number of a wrong size (`WrongSize`), and any other is read as the table
--- reads it (`WithData`), so that its packet has the body's number (`Told`).
+-- `decoder::read_control` meets its contract: a body that has its fields is read as the table reads it (`WithData`), so that its packet has the body's
+-- number (`Told`).
 -- Assumes nothing.
+use mathlib.Core.Path.{refl}
 use lib.Dec.{lit<}
-use borrow.Author.Rules.{rules}
+use Rattle.std.proofs.lemmas.Result.{err_from_is_err_and}
 use Rattle.kinds.specs.Table.{kinds}
-use Rattle.decoder.proofs.Told.{size-refused, packet-read}
+use Rattle.decoder.proofs.Told.{packet-refused, packet-read}
 use Rattle.decoder.proofs.WithData.{control}
-use Rattle.decoder.proofs.WrongSize.{lacks}
 use Rattle.decoder.proofs.read_control.Goals as goal
 
-pub returns-then-body-lt10 : goal.returns-then-body-lt10
+pub check_fields-requires : goal.check_fields-requires
 unfolding kinds
-returns-then-body-lt10 c =
+check_fields-requires c = (lit< tt, refl)
+
+pub returns-in_err-check_control : goal.returns-in_err-check_control
+returns-in_err-check_control c =
     let a = c.args in
-    let m = c.size_number.ensures in
-    size-refused a.l a.h m.0 (lacks a.l 28 a.h.id a.body.now (lit< tt) m.1 c.if-body-lt10.true)
+    let e = err_from_is_err_and c.from_residual-in_err-check_control.result c.from_residual-in_err-check_control.ensures.1 in
+    rw (e.1, e.2)
+    (packet-refused a.l a.h (rw (c.after.ensures, c.get16-3.ensures, c.get16-2.ensures, c.get16.ensures, c.get8-4.ensures, c.get8-3.ensures, c.get8-2.ensures, c.get8.ensures) (control _ _ c.in_ok-check_fields.ensures)) c.in_err-check_control.ensures)
 
 pub returns : goal.returns
 returns c =
     let a = c.args in
-    rw c.finish.ensures
-    (packet-read a.l a.h
-    (rw (
-      c.after-payload.ensures,
-      c.get16-length.ensures,
-      c.get16-index.ensures,
-      c.get16-value.ensures,
-      c.get8-status.ensures,
-      c.get8-requesttype.ensures,
-      c.get8-request.ensures,
-      c.get8.ensures,
-    )
-    (control _ _ c.if-body-lt10.false))
-    c.control_number.ensures)
+    packet-read a.l a.h (rw (c.after.ensures, c.get16-3.ensures, c.get16-2.ensures, c.get16.ensures, c.get8-4.ensures, c.get8-3.ensures, c.get8-2.ensures, c.get8.ensures) (control _ _ c.in_ok-check_fields.ensures)) c.in_ok-check_control.ensures

@@ -4,7 +4,6 @@
 use mathlib.Core.Path.{◌≡◌, sym, ◌∙◌}
 use native.Mathlib.Omega.{arith}
 use lib.Dec.{lit<, lit≤}
-use borrow.Author.Rules.{rules}
 use Rattle.kinds.specs.Slots.{high}
 use Rattle.decoder.proofs.Told.{behind-known}
 use Rattle.decoder.proofs.read_data.Goals as goal

@@ -4,7 +4,6 @@ use mathlib.Core.Path.{sym, ◌∙◌}
 use native.Mathlib.Omega.{arith}
 use borrow.Author.Tests.{lt-leb}
 use Rattle.kinds.specs.Slots.{low, number_at}
-use borrow.Author.Rules.{rules}
 use Rattle.encoder.proofs.kind_of.Goals as goal
 
 pub returns-then-slot-lt28 : goal.returns-then-slot-lt28

@@ -1,11 +1,9 @@
 -- `encoder::lay_out` meets its contract: its runs of stores, one behind the other, are one run.
 -- Assumes nothing.
 use Prim.Native.Nat.{ℕ}
-use native.Mathlib.Omega.{arith}
 use mathlib.Core.List.{List}
 use Rattle.packet.specs.Fields.{in_widths}
 use Rattle.encoder.proofs.Laid.{laid_out_lem}
-use borrow.Author.Rules.{rules}
 use Rattle.encoder.proofs.lay_out.Goals as goal
 
 pub returns : goal.returns

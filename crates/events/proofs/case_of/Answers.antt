@@ -1,6 +1,5 @@
 -- `events::case_of` meets its contract: in each arm the packet is known, and what the calls give is what `means` has for it.
 -- Assumes nothing.
-use borrow.Author.Rules.{rules}
 use Rattle.events.proofs.EachKind.{means, iso-means, interrupt-means}
 use Rattle.events.proofs.case_of.Goals as goal
 
@@ -95,7 +94,7 @@ pub returns-in-BulkReceivingStatus : goal.returns-in-BulkReceivingStatus
 returns-in-BulkReceivingStatus c = rw (c.reports_stream-in-BulkReceivingStatus.ensures, c.in-BulkReceivingStatus.is) (means _ _ _ _)
 
 pub returns-in-Control : goal.returns-in-Control
-returns-in-Control c = rw (c.transfer.ensures, c.in-Control.is) (means _ _ _ _)
+returns-in-Control c = rw (c.transfer.ensures, c.from.ensures, c.in-Control.is) (means _ _ _ _)
 
 pub returns-in-Bulk : goal.returns-in-Bulk
 returns-in-Bulk c = rw (c.transfer-in-Bulk.ensures, c.in-Bulk.is) (means _ _ _ _)
@@ -104,7 +103,7 @@ pub returns-else-is_guest : goal.returns-else-is_guest
 returns-else-is_guest c = rw c.in-Iso.is (iso-means _ _ _ _ _ _ c.is_guest.ensures c.if-is_guest.false)
 
 pub returns-else-is_guest-is_in : goal.returns-else-is_guest-is_in
-returns-else-is_guest-is_in c = rw (c.transfer-in-Interrupt.ensures, c.in-Interrupt.is) (interrupt-means _ _ _ _ _ _ _ c.is_guest-in-Interrupt.ensures c.is_in.ensures c.if-is_guest-is_in.false)
+returns-else-is_guest-is_in c = rw (c.transfer-else-is_guest-is_in.ensures, c.from-else-is_guest-is_in.ensures, c.in-Interrupt.is) (interrupt-means _ _ _ _ _ _ _ c.is_guest-in-Interrupt.ensures c.is_in.ensures c.if-is_guest-is_in.false)
 
 pub returns-in-BufferedBulk : goal.returns-in-BufferedBulk
 returns-in-BufferedBulk c = rw c.in-BufferedBulk.is (means _ _ _ _)

@@ -1,8 +1,9 @@
 -- `frame::cut_of` meets its contract: the case of what the bytes are, in the values that were read.
 -- Assumes nothing.
+use mathlib.Core.Path.{refl}
 use native.Mathlib.Omega.{arith}
+use Rattle.header.proofs.Refusals.{refused}
 use Rattle.frame.proofs.Cases.{cut_short, cut-refused, cut-part, cut-full, id-narrow}
-use borrow.Author.Rules.{rules}
 use Rattle.frame.proofs.cut_of.Goals as goal
 
 pub overflow_add-header : goal.overflow_add-header
@@ -12,17 +13,17 @@ pub returns-then-piece-saturating_sub : goal.returns-then-piece-saturating_sub
 returns-then-piece-saturating_sub c =
     cut_short c.args.l c.args.held.now c.args.piece.now _ _ _ c.get32_across-kind.ensures c.get32_across-length.ensures c.id_width-header.ensures (rw (← c.saturating_sub.ensures) c.if-piece-saturating_sub.true)
 
-pub returns-then-number-ne0 : goal.returns-then-number-ne0
-returns-then-number-ne0 c =
-    cut-refused c.args.l c.args.held.now c.args.piece.now _ _ _ c.get32_across-kind.ensures c.get32_across-length.ensures c.id_width-header.ensures (rw (← c.saturating_sub.ensures) c.if-piece-saturating_sub.false) _ c.header_number-number.ensures c.if-number-ne0.true
+pub returns-in-Err : goal.returns-in-Err
+returns-in-Err c =
+    cut-refused c.args.l c.args.held.now c.args.piece.now _ _ _ c.get32_across-kind.ensures c.get32_across-length.ensures c.id_width-header.ensures (rw (← c.saturating_sub.ensures) c.if-piece-saturating_sub.false) _ c.in-Err.ensures (refused c.in-Err.refusal)
 
 pub overflow_add-size : goal.overflow_add-size
 overflow_add-size c = omega (arith, c.id_width-header.ensures, id-narrow c.args.l c.get32_across-kind.result)
 
 pub returns-then-piece-saturating_sub-2 : goal.returns-then-piece-saturating_sub-2
 returns-then-piece-saturating_sub-2 c =
-    cut-part c.args.l c.args.held.now c.args.piece.now _ _ _ c.get32_across-kind.ensures c.get32_across-length.ensures c.id_width-header.ensures (rw (← c.saturating_sub.ensures) c.if-piece-saturating_sub.false) _ c.header_number-number.ensures c.if-number-ne0.false (rw (← c.saturating_sub-2.ensures) c.if-piece-saturating_sub-2.true)
+    cut-part c.args.l c.args.held.now c.args.piece.now _ _ _ c.get32_across-kind.ensures c.get32_across-length.ensures c.id_width-header.ensures (rw (← c.saturating_sub.ensures) c.if-piece-saturating_sub.false) _ c.in_default.ensures refl (rw (← c.saturating_sub-2.ensures) c.if-piece-saturating_sub-2.true)
 
 pub returns : goal.returns
 returns c =
-    cut-full c.args.l c.args.held.now c.args.piece.now _ _ _ c.get32_across-kind.ensures c.get32_across-length.ensures c.id_width-header.ensures (rw (← c.saturating_sub.ensures) c.if-piece-saturating_sub.false) _ c.header_number-number.ensures c.if-number-ne0.false (rw (← c.saturating_sub-2.ensures) c.if-piece-saturating_sub-2.false)
+    cut-full c.args.l c.args.held.now c.args.piece.now _ _ _ c.get32_across-kind.ensures c.get32_across-length.ensures c.id_width-header.ensures (rw (← c.saturating_sub.ensures) c.if-piece-saturating_sub.false) _ c.in_default.ensures refl (rw (← c.saturating_sub-2.ensures) c.if-piece-saturating_sub-2.false)

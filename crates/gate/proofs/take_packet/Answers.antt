@@ -1,37 +1,26 @@
 -- `gate::take_packet` meets its contract: the packet's bytes, wherever they lie, are read and ruled on (`Taken`).
 -- Assumes nothing.
-use mathlib.Core.Path.{refl}
-use Rattle.gate.proofs.Taken.{packet-refused, packet-ruled, packet-ruled-out}
+use Rattle.gate.proofs.Taken.{packet-refused, packet-passed, packet-ruled-out}
 use borrow.Author.Rules.{rules}
 use Rattle.gate.proofs.take_packet.Goals as goal
 
-pub returns-in-Refused : goal.returns-in-Refused
-returns-in-Refused c =
+pub returns-in-Err : goal.returns-in-Err
+returns-in-Err c =
     let a = c.args in
-    let t = rw (c.saturating_sub.ensures, c.get.ensures.0, c.saturating_sub-2.ensures) at c.read_behind-reading.ensures in
-    λ s from l el ed r cut.
-    packet-refused from s a.hold.now a.piece.now l.head el ed r cut c.complete-taken.ensures.0 c.location_of-location.ensures c.complete-taken.ensures.1 c.lend-bytes.ensures c.part-body.ensures c.read_behind-reading.result t c.in-Refused.is c.ended.ensures
+    let q = c.requires in
+    let t = rw (c.saturating_sub.ensures, c.get.ensures.0, c.saturating_sub-2.ensures) at c.read_behind.ensures in
+    packet-refused a.from a.s.now a.hold.now a.piece.now q.1 q.2 q.3 q.4 c.complete-taken.ensures.0 c.location_of-location.ensures c.complete-taken.ensures.1 c.lend-bytes.ensures c.part-body.ensures c.read_behind.result t c.in-Err.is (rw c.number.ensures at c.ended.ensures)
 
-pub returns-in-Denied : goal.returns-in-Denied
-returns-in-Denied c =
+pub returns-in-Ok-rule : goal.returns-in-Ok-rule
+returns-in-Ok-rule c =
     let a = c.args in
-    let t = rw (c.saturating_sub.ensures, c.get.ensures.0, c.saturating_sub-2.ensures) at c.read_behind-reading.ensures in
-    λ s from l el ed r cut.
-    let q = c.rule-ruling.ensures s.rows s.requests l.types-lent l.streams-lent (record { used = l.used-lent; live = l.live-lent; kinds = l.kinds-lent; ids = l.ids-lent }) in
-    packet-ruled-out from s a.hold.now a.piece.now l.head el ed r cut c.complete-taken.ensures.0 c.location_of-location.ensures c.complete-taken.ensures.1 c.lend-bytes.ensures c.part-body.ensures c.read_behind-reading.result t c.in-Decoded.is c.case_of.ensures q c.in-Denied.is c.ended-in-Denied.ensures
+    let q = c.requires in
+    let t = rw (c.saturating_sub.ensures, c.get.ensures.0, c.saturating_sub-2.ensures) at c.read_behind.ensures in
+    packet-passed a.from a.s.now a.hold.now a.piece.now q.1 q.2 q.3 q.4 c.complete-taken.ensures.0 c.location_of-location.ensures c.complete-taken.ensures.1 c.lend-bytes.ensures c.part-body.ensures c.read_behind.result t c.in-Ok.is c.case_of.ensures c.rule.ensures c.in-Ok-rule.is c.passed.ensures
 
-pub returns-in-Granted : goal.returns-in-Granted
-returns-in-Granted c =
+pub returns-in-Err-rule : goal.returns-in-Err-rule
+returns-in-Err-rule c =
     let a = c.args in
-    let t = rw (c.saturating_sub.ensures, c.get.ensures.0, c.saturating_sub-2.ensures) at c.read_behind-reading.ensures in
-    λ s from l el ed r cut.
-    let q = c.rule-ruling.ensures s.rows s.requests l.types-lent l.streams-lent (record { used = l.used-lent; live = l.live-lent; kinds = l.kinds-lent; ids = l.ids-lent }) in
-    packet-ruled from s a.hold.now a.piece.now l.head el ed r cut c.complete-taken.ensures.0 c.location_of-location.ensures c.complete-taken.ensures.1 c.lend-bytes.ensures c.part-body.ensures c.read_behind-reading.result t c.in-Decoded.is c.case_of.ensures c.rule-ruling.result q c.in-Granted.is refl c.passing.ensures
-
-pub returns-in-Pending : goal.returns-in-Pending
-returns-in-Pending c =
-    let a = c.args in
-    let t = rw (c.saturating_sub.ensures, c.get.ensures.0, c.saturating_sub-2.ensures) at c.read_behind-reading.ensures in
-    λ s from l el ed r cut.
-    let q = c.rule-ruling.ensures s.rows s.requests l.types-lent l.streams-lent (record { used = l.used-lent; live = l.live-lent; kinds = l.kinds-lent; ids = l.ids-lent }) in
-    packet-ruled from s a.hold.now a.piece.now l.head el ed r cut c.complete-taken.ensures.0 c.location_of-location.ensures c.complete-taken.ensures.1 c.lend-bytes.ensures c.part-body.ensures c.read_behind-reading.result t c.in-Decoded.is c.case_of.ensures c.rule-ruling.result q c.in-Pending.is refl c.passing-in-Pending.ensures
+    let q = c.requires in
+    let t = rw (c.saturating_sub.ensures, c.get.ensures.0, c.saturating_sub-2.ensures) at c.read_behind.ensures in
+    packet-ruled-out a.from a.s.now a.hold.now a.piece.now q.1 q.2 q.3 q.4 c.complete-taken.ensures.0 c.location_of-location.ensures c.complete-taken.ensures.1 c.lend-bytes.ensures c.part-body.ensures c.read_behind.result t c.in-Ok.is c.case_of.ensures c.rule.ensures c.in-Err-rule.is (rw c.number-in-Err-rule.ensures at c.ended-in-Err-rule.ensures)

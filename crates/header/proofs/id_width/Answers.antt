@@ -1,6 +1,5 @@
 -- `header::id_width` meets its contract: the branch is the one that `id_width` takes.
 -- Assumes nothing.
-use borrow.Author.Rules.{rules}
 use Rattle.header.specs.Link.{id_width}
 use Rattle.header.proofs.id_width.Goals as goal
 

@@ -3,7 +3,6 @@
 use mathlib.Core.Path.{◌≡◌, refl}
 use Prim.Native.Nat.{◌≤◌, min}
 use native.Mathlib.Omega.{arith}
-use borrow.Author.Rules.{rules}
 use Rattle.header.specs.Header.{header_size}
 use Rattle.header.proofs.Widths.{id-widths}
 use Rattle.header.proofs.read_header.Goals as goal

@@ -1,32 +1,27 @@
--- `octets::gather` meets its contract: from the last byte to the first, what has been read is `le` of the bytes passed, and so wraps nowhere.
+-- `octets::gather` meets its contract: what has been read spells at most 7 bytes before the last turn, and so wraps nowhere.
 -- Assumes nothing.
-use mathlib.Core.Path.{◌≡◌}
-use Prim.Native.Nat.{◌+◌, ◌-◌, ◌*◌, ◌≤◌, ◌<◌, ◌^◌}
+use Rattle.std.proofs.Common.{◌≡◌, ◌-◌, ◌<◌, min, arith}
 use native.Mathlib.Nat.{add-zero, sub-zero}
-use native.Mathlib.Omega.{arith}
-use lib.Dec.{lit<}
 use Rattle.octets.specs.Little.{le}
-use Rattle.octets.proofs.Bytes.{le_step, grow, room}
+use Rattle.octets.proofs.Bytes.{below}
+use Rattle.octets.proofs.Integers.{le-drop}
 use Rattle.octets.proofs.gather.Goals as goal
 
 pub overflow_mul-x : goal.overflow_mul-x
 overflow_mul-x c =
     let l = c.loop-i in
-    let n = c.minimum-i in
-    omega (arith, grow n.result l.i l.x 0 c.loop-i-test.true l.invariant.0 l.invariant.1.1 (lit< tt), room n.result (l.i - 1) (omega arith))
+    let h : min c.args.n 8 - l.i < 8 = omega (arith, c.loop-i-test.true) in
+    omega (arith, l.invariant, below c.after-bytes.result.now c.type_inv.bytes (min c.args.n 8 - l.i) 7 l.i (omega arith))
 
 pub overflow_add-x : goal.overflow_add-x
 overflow_add-x c =
-    let next : c.loop-i.x * 256 + c.byte_after.result < 256 ^ (c.minimum-i.result - (c.loop-i.i - 1)) = let l = c.loop-i in
-    grow c.minimum-i.result l.i l.x _ c.loop-i-test.true l.invariant.0 l.invariant.1.1 (omega arith) in
-    let n = c.minimum-i in
-    omega (arith, next, room n.result (c.loop-i.i - 1) (omega arith))
-
-pub loop-i-preserved : goal.loop-i-preserved
-loop-i-preserved c =
-    let next : c.loop-i.x * 256 + c.byte_after.result < 256 ^ (c.minimum-i.result - (c.loop-i.i - 1)) = let l = c.loop-i in
-    grow c.minimum-i.result l.i l.x _ c.loop-i-test.true l.invariant.0 l.invariant.1.1 (omega arith) in
     let l = c.loop-i in
-    let n = c.minimum-i.result in
+    let h : min c.args.n 8 - l.i < 8 = omega (arith, c.loop-i-test.true) in
+    omega (arith, l.invariant, below c.after-bytes.result.now c.type_inv.bytes (min c.args.n 8 - l.i) 7 l.i (omega arith), c.from.ensures, c.unwrap_or.type_inv)
+
+pub returns : goal.returns
+returns c =
     let a = c.args in
-    (omega arith, (omega (arith, le_step a.s.now a.at n l.i c.loop-i-test.true l.invariant.0, l.invariant.1.0), omega (arith, next)))
+    let z : c.loop-i.i ≡ 0 = omega (arith, c.loop-i-test.false) in
+    let e : c.loop-i.x ≡ le (min a.n 8) a.s.now a.at = rw (c.loop-i.invariant, z, c.after-bytes.ensures, sub-zero, le-drop, add-zero) in
+    (e, omega (arith, e, below a.s.now c.type_inv.s (min a.n 8) (min a.n 8) a.at (omega arith)))

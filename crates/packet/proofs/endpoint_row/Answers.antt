@@ -2,10 +2,8 @@
 -- Assumes nothing.
 use Prim.Native.Nat.{ℕ}
 use mathlib.Core.Path.{ap, ◌∙◌}
-use lib.Dec.{lit≤, lit<}
 use Rattle.packet.specs.Packet.{in_part, rows_in}
-use Rattle.packet.proofs.Rows.{streams-at, endpoint-cells}
-use borrow.Author.Rules.{rules}
+use Rattle.packet.proofs.Rows.{endpoint-cells}
 use Rattle.packet.proofs.endpoint_row.Goals as goal
 
 pub returns : goal.returns
@@ -13,14 +11,14 @@ returns c =
     let a = c.args in
     let e = c.rows_in-s.ensures ∙ ap (λ (n : ℕ). rows_in n (in_part a.t.rows a.body.now)) c.table_size.ensures in
     rw (
-      c.given32.ensures,
+      c.then_some-2.ensures,
       c.cell-2.ensures.0,
-      c.given16.ensures,
+      c.then_some.ensures,
       c.cell.ensures.0,
       c.cell8-3.ensures,
       c.cell8-2.ensures,
       c.cell8.ensures,
-      c.choose-at.ensures,
+      c.table_size-at.ensures,
       e,
     )
     (endpoint-cells a.t a.body.now a.row.0)

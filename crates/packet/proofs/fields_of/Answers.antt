@@ -1,13 +1,15 @@
 -- `packet::fields_of` meets its contract: in each arm the packet is known, and its fields are those that the arm lists.
 -- Assumes nothing.
-use mathlib.Core.Path.{refl}
+use mathlib.Core.Path.{◌≡◌, refl}
+use mathlib.Core.Bool.{cond, ◌||◌}
 use native.Mathlib.Omega.{arith}
-use lib.Dec.{lit<, lit≤}
+use lib.Dec.{ltb, lit<, lit≤}
+use Rattle.octets.specs.Bits.{has_bit}
 use Rattle.kinds.specs.Table.{kinds}
 use Rattle.kinds.specs.Codec.{layout}
 use Rattle.packet.proofs.Given as given
-use borrow.Author.Rules.{rules}
 use Rattle.packet.proofs.fields_of.Goals as goal
+use Rattle.packet.proofs.fields_of.Goals.{then-is_high, else-is_high}
 
 pub returns-in-Hello : goal.returns-in-Hello
 unfolding kinds layout
@@ -17,8 +19,8 @@ pub returns-in-Connect : goal.returns-in-Connect
 unfolding kinds layout
 returns-in-Connect c =
     let v = c.value16 in
-    rw (c.many.ensures, v.ensures.0, c.choose.ensures, c.is_given.ensures, c.in-Connect.is)
-    (given.connect _ _ _ _ _ _ _ _ (omega arith) (omega arith) (omega arith) (omega arith) (omega (arith, c.struct_known-in-Connect-4-1.given)) (omega (arith, c.struct_known-in-Connect-5-1.given)) (rw v.ensures.0 at v.ensures.1))
+    rw (c.many.ensures, v.ensures.0, c.connect_count.ensures, c.in-Connect.is)
+    (given.connect _ _ _ _ _ _ _ _ (omega arith) (omega arith) (omega arith) (omega arith) (omega arith) (omega arith) (rw v.ensures.0 at v.ensures.1))
 
 pub returns-in-Disconnect : goal.returns-in-Disconnect
 unfolding kinds layout
@@ -128,10 +130,15 @@ pub returns-in-Control : goal.returns-in-Control
 unfolding kinds layout
 returns-in-Control c = rw (c.with_rest-in-Control.ensures, c.many-in-Control.ensures, c.in-Control.is) (record { exact = refl; small = lit< tt; kind = refl; few = lit≤ tt; bare = λ z. refl; bytes = refl; fits = ((omega arith, tt), ((omega arith, tt), ((omega arith, tt), ((omega arith, tt), ((omega arith, tt), ((omega (arith, c.struct_known-in-Control-6-1.given), tt), ((omega (arith, c.struct_known-in-Control-7-1.given), tt), tt))))))) })
 
-pub returns-in-Bulk : goal.returns-in-Bulk
+pub returns-after-is_high : goal.returns-after-is_high
 unfolding kinds layout
-returns-in-Bulk c =
-    rw (c.with_rest-in-Bulk.ensures, c.many-in-Bulk.ensures, c.choose-in-Bulk.ensures, c.has_bit.ensures, c.in-Bulk.is)
+returns-after-is_high c =
+    let n : c.if-is_high.count ≡ cond (has_bit c.args.caps 6 || ltb 65535 c.in-Bulk.x.length) 5 4 =
+    elim c.if-is_high.branch [
+      | then-is_high w ↦ rw (w.count-is, ← c.has_bit.ensures, w.if-is_high.true)
+      | else-is_high w ↦ rw (w.count-is, ← c.has_bit.ensures, w.if-is_high.false)
+    ] in
+    rw (c.with_rest-in-Bulk.ensures, c.many-in-Bulk.ensures, n, c.in-Bulk.is)
     (given.bulk _ _ _ _ _ _ (omega arith) (omega arith) (omega arith) (omega arith))
 
 pub returns-in-Iso : goal.returns-in-Iso

@@ -1,7 +1,6 @@
 -- `packet::interface_row` meets its contract: each column stands 32 bytes behind the one before it.
 -- Assumes nothing.
 use Rattle.packet.proofs.Rows.{interface-cells}
-use borrow.Author.Rules.{rules}
 use Rattle.packet.proofs.interface_row.Goals as goal
 
 pub returns : goal.returns

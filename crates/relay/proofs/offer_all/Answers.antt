@@ -1,24 +1,33 @@
 -- `relay::offer_all` meets its contract: each turn is the next call.
 -- Assumes nothing.
-use mathlib.Core.Path.{◌≡◌, refl, ◌∙◌}
-use native.Mathlib.Omega.{arith}
-use borrow.Author.Rules.{rules}
+use Rattle.std.proofs.Common.{refl}
 use borrow.Author.Rules.{part_to_end}
-use Prim.Native.Nat.{◌<◌, ◌^◌}
-use lib.ListN.{length}
-use Rattle.relay.proofs.Pieces.{Offering, starts, turns_left, few, goes_on, less, all-offered}
+use Rattle.relay.proofs.Pieces.{starts, used-up, few, goes_on, barred_here, not_sent}
 use Rattle.relay.proofs.offer_all.Goals as goal
 
-pub loop-open-init : goal.loop-open-init
-loop-open-init c = (starts, refl)
+pub loop-rest-init : goal.loop-rest-init
+loop-rest-init c = starts
 
-pub overflow_add-at : goal.overflow_add-at
-overflow_add-at c =
-    let bytes-number : length c.args.bytes.now < 2 ^ 64 = omega arith in
-    let e = part_to_end c.args.bytes.now c.loop-open.at in
-    omega (arith, bytes-number, few c.loop-open.invariant.0 c.offer-o.result e c.offer-o.ensures)
+pub slice_bounds-rest-count : goal.slice_bounds-rest-count
+slice_bounds-rest-count c = few c.loop-rest.invariant c.offer-o.result c.offer-o.ensures
 
-pub loop-open-preserved : goal.loop-open-preserved
-loop-open-preserved c =
-    let e = part_to_end c.args.bytes.now c.loop-open.at in
-    (goes_on c.loop-open.invariant.0 c.offer-o.result e c.offer-o.ensures c.forward-sent.result, c.offer-o.auto.hold ∙ c.loop-open.invariant.1)
+pub slice_bounds-rest-start : goal.slice_bounds-rest-start
+slice_bounds-rest-start c = few c.loop-rest.invariant c.offer-o.result c.offer-o.ensures
+
+pub loop-rest-preserved : goal.loop-rest-preserved
+loop-rest-preserved c =
+    let o = c.offer-o.result in
+    goes_on c.loop-rest.invariant o c.offer-o.ensures (part_to_end c.loop-rest.rest.now o.answer.taken)
+
+pub returns-then-is_err : goal.returns-then-is_err
+returns-then-is_err c =
+    let o = c.offer-o.result in
+    not_sent c.loop-rest.invariant o c.offer-o.ensures (part_to_end c.loop-rest.rest.now o.answer.taken) refl
+
+pub returns-then-a-eq0 : goal.returns-then-a-eq0
+returns-then-a-eq0 c =
+    let o = c.offer-o.result in
+    barred_here c.loop-rest.invariant o c.offer-o.ensures (part_to_end c.loop-rest.rest.now o.answer.taken) refl c.if-a-eq0.true
+
+pub returns-after-loop-rest : goal.returns-after-loop-rest
+returns-after-loop-rest c = used-up c.loop-rest.invariant c.loop-rest-test.false

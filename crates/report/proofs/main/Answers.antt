@@ -4,7 +4,6 @@ use Prim.Native.Nat.{ℕ}
 use mathlib.Core.Path.{refl}
 use lib.ListN.{length-replicate}
 use Rattle.transcript.specs.Input.{start}
-use borrow.Author.Rules.{rules}
 use Rattle.report.proofs.main.Goals as goal
 
 pub report_input-requires : goal.report_input-requires

@@ -3,7 +3,6 @@
 use mathlib.Core.Path.{ap}
 use mathlib.Core.Bool.{false}
 use lib.ListN.{replicate}
-use borrow.Author.Rules.{rules}
 use Rattle.requests.specs.declared.Slot.{Slot}
 use Rattle.requests.specs.Requests.{fresh_requests}
 use Rattle.requests.proofs.fresh.Goals as goal

@@ -1,8 +1,7 @@
 -- `rules::connect` meets its contract: what its calls give is what the law of its kind has.
 -- Assumes nothing.
 use Rattle.rules.proofs.EachKind as law
-use borrow.Author.Rules.{rules}
 use Rattle.rules.proofs.connect.Goals as goal
 
 pub returns : goal.returns
-returns c = λ from body. rw (c.checked.ensures, c.checked-last.ensures, c.zero_id.ensures, c.has_bit-shared.ensures, c.is_given-given.ensures) (law.connect _ _ _ _ _)
+returns c = λ from body. rw (c.checked.ensures, c.checked-last.ensures, c.zero_id.ensures, c.has_bit-shared.ensures, c.is_some-given.ensures) (law.connect _ _ _ _ _)

@@ -1,7 +1,6 @@
 -- `rules::endpoints` meets its contract: what its calls give is what the law of its kind has.
 -- Assumes nothing.
 use Rattle.rules.proofs.EachKind as law
-use borrow.Author.Rules.{rules}
 use Rattle.rules.proofs.endpoints.Goals as goal
 
 pub returns : goal.returns

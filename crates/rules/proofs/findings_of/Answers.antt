@@ -1,6 +1,5 @@
 -- `rules::findings_of` meets its contract: in each arm the packet is known, and what the calls give is what the kind's law of `EachKind` has.
 -- Assumes nothing.
-use borrow.Author.Rules.{rules}
 use Rattle.rules.proofs.EachKind as law
 use Rattle.rules.proofs.findings_of.Goals as goal
 

@@ -1,10 +1,8 @@
 -- `rules::type_at` meets its contract: the rows still to be looked at have their first bad type where all of them have it.
 -- Assumes nothing.
-use mathlib.Core.Path.{◌≡◌, refl, sym, ap, ◌∙◌}
-use Prim.Native.Nat.{◌-◌, ◌≤◌}
+use mathlib.Core.Path.{◌≡◌, sym, ap, ◌∙◌}
 use native.Mathlib.Omega.{arith}
-use borrow.Author.Tests.{not-true, not-false}
-use Rattle.rules.specs.Findings.{type_ok, type_fault}
+use Rattle.rules.specs.Findings.{type_ok}
 use Rattle.rules.proofs.Turns.{type-more, type-here}
 use Rattle.rules.proofs.type_at.Goals as goal
 

@@ -4,10 +4,10 @@ use borrow.Author.Rules.{rules}
 use Rattle.test_probe.proofs.Readings.{field-refused, field-passed}
 use Rattle.test_probe.proofs.test_probe_field.Goals as goal
 
-pub returns-in-Refused : goal.returns-in-Refused
-returns-in-Refused c =
-    field-refused c.link_of-l.ensures c.args.bytes.now c.read.ensures c.args.i c.in-Refused.is
+pub returns-in-Err : goal.returns-in-Err
+returns-in-Err c =
+    field-refused c.link_of-l.ensures c.args.bytes.now c.read.ensures c.args.i c.in-Err.is
 
-pub returns-in-Decoded : goal.returns-in-Decoded
-returns-in-Decoded c =
-    field-passed c.link_of-l.ensures c.args.bytes.now c.read.ensures c.args.i c.in-Decoded.is c.shared_set.ensures c.field_of.ensures
+pub returns-in-Ok : goal.returns-in-Ok
+returns-in-Ok c =
+    field-passed c.link_of-l.ensures c.args.bytes.now c.read.ensures c.args.i c.in-Ok.is c.shared_set.ensures c.field_of.ensures

@@ -4,10 +4,10 @@ use borrow.Author.Rules.{rules}
 use Rattle.test_probe.proofs.Readings.{number-refused, number_passed}
 use Rattle.test_probe.proofs.test_probe_number.Goals as goal
 
-pub returns-in-Refused : goal.returns-in-Refused
-returns-in-Refused c =
-    number-refused c.link_of.ensures c.args.bytes.now c.read.ensures c.in-Refused.is
+pub returns-in-Err : goal.returns-in-Err
+returns-in-Err c =
+    number-refused c.link_of.ensures c.args.bytes.now c.read.ensures c.in-Err.is c.number.ensures
 
-pub returns-in-Decoded : goal.returns-in-Decoded
-returns-in-Decoded c =
-    number_passed c.link_of.ensures c.args.bytes.now c.read.ensures c.in-Decoded.is
+pub returns-in-Ok : goal.returns-in-Ok
+returns-in-Ok c =
+    number_passed c.link_of.ensures c.args.bytes.now c.read.ensures c.in-Ok.is

@@ -4,10 +4,10 @@ use borrow.Author.Rules.{rules}
 use Rattle.test_probe.proofs.Rewriting.{rewrite-refused, rewrite-passed}
 use Rattle.test_probe.proofs.test_probe_rewrite.Goals as goal
 
-pub returns-in-Refused : goal.returns-in-Refused
-returns-in-Refused c =
-    rewrite-refused c.link_of-l.ensures c.read.ensures c.in-Refused.is
+pub returns-in-Err : goal.returns-in-Err
+returns-in-Err c =
+    rewrite-refused c.link_of-l.ensures c.read.ensures c.in-Err.is
 
-pub returns-in-Decoded : goal.returns-in-Decoded
-returns-in-Decoded c =
-    rewrite-passed c.link_of-l.ensures c.read.ensures c.in-Decoded.is c.part-body.ensures c.write-w.ensures
+pub returns-in-Ok : goal.returns-in-Ok
+returns-in-Ok c =
+    rewrite-passed c.link_of-l.ensures c.read.ensures c.in-Ok.is c.part-body.ensures c.write.ensures

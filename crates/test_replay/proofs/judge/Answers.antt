@@ -1,17 +1,32 @@
 -- `test_replay::judge` meets its contract: a reading that is refused gives its number, and one that passed what it is ruled on (`Judging`).
 -- Assumes nothing.
 use mathlib.Core.Path.{refl}
-use Rattle.test_replay.proofs.Judging.{judge-refuses, judge-rules}
-use borrow.Author.Rules.{rules}
+use borrow.Author.Tests.{ne_eqb}
+use Rattle.test_replay.proofs.Judging.{judge-refuses, judge-denies, judge-passes}
 use Rattle.test_replay.proofs.judge.Goals as goal
 
-pub returns-in-Refused : goal.returns-in-Refused
-returns-in-Refused c =
+pub returns-then-get32-eq0 : goal.returns-then-get32-eq0
+returns-then-get32-eq0 c =
     let a = c.args in
     λ d.
-    judge-refuses a.s a.from a.bytes.now c.link_to.ensures c.read-reading.result c.read-reading.ensures c.in-Refused.is c.get32.ensures c.refuse.ensures
+    rw c.number-told.ensures (judge-refuses a.s.now a.from a.bytes.now c.link_to.ensures c.read.result c.read.ensures c.in-Err.is c.get32.ensures (rw c.if-get32-eq0.true refl))
 
-pub returns-in-Decoded : goal.returns-in-Decoded
-returns-in-Decoded c =
+pub returns-else-get32-eq0 : goal.returns-else-get32-eq0
+returns-else-get32-eq0 c =
     let a = c.args in
-    judge-rules a.s a.from a.bytes.now c.link_to.ensures c.read-reading.result c.read-reading.ensures c.rule-u.result c.in-Decoded.is c.part-body.ensures c.case_of.ensures (c.rule-u.ensures a.s.rows a.s.requests refl refl (record { used = refl; live = refl; kinds = refl; ids = refl })) c.awaited_place.ensures c.slot_of.ensures c.settle_ruling-ruling.ensures c.announced.ensures c.conclude.ensures
+    λ d.
+    rw c.number-told.ensures
+    (judge-refuses a.s.now a.from a.bytes.now c.link_to.ensures c.read.result c.read.ensures c.in-Err.is c.get32.ensures (rw (ne_eqb _ 0 c.if-get32-eq0.false) refl))
+
+pub returns-in-Ok-rule : goal.returns-in-Ok-rule
+returns-in-Ok-rule c =
+    let a = c.args in
+    λ d.
+    judge-passes a.s.now a.from a.bytes.now c.link_to.ensures c.read.result c.read.ensures c.in-Ok.is c.part-body.ensures c.case_of.ensures c.rule.ensures d c.in-Ok-rule.is c.announced.ensures c.apply.ensures
+
+pub returns-in-Err-rule : goal.returns-in-Err-rule
+returns-in-Err-rule c =
+    let a = c.args in
+    λ d.
+    rw c.number.ensures
+    (judge-denies a.s.now a.from a.bytes.now c.link_to.ensures c.read.result c.read.ensures c.in-Ok.is c.part-body.ensures c.case_of.ensures c.rule.ensures d c.in-Err-rule.is)

@@ -1,11 +1,7 @@
 -- `test_replay::test_replay` meets its contract: what is still to come, over what is laid, gives what all of the script gives.
 -- Assumes nothing.
-use Prim.Native.Nat.{◌+◌, ◌-◌, ◌<◌, ◌^◌}
-use native.Mathlib.Omega.{arith}
-use borrow.Author.Rules.{rules}
-use lib.ListN.{length}
 use borrow.Author.Rules.{part_to_end}
-use Rattle.test_replay.proofs.Replays.{Replaying, replay-starts, replay-goes-on, replay-short, replay-full}
+use Rattle.test_replay.proofs.Replays.{replay-starts, replay-goes-on, replay-short, replay-full}
 use Rattle.test_replay.proofs.test_replay.Goals as goal
 
 pub loop-k-init : goal.loop-k-init
@@ -17,7 +13,7 @@ returns-then-rest-size c =
 
 pub loop-k-preserved : goal.loop-k-preserved
 loop-k-preserved c =
-    replay-goes-on c.loop-k.invariant c.judge-v.result c.loop-k-test.true (part_to_end c.args.script.now c.loop-k.at) c.get16.ensures c.if-rest-size.false c.get8.ensures c.side_of.ensures c.part.ensures c.judge-v.ensures
+    replay-goes-on c.loop-k.invariant c.loop-k-test.true (part_to_end c.args.script.now c.loop-k.at) c.get16.ensures c.if-rest-size.false c.get8.ensures c.side_of.ensures c.part.ensures c.judge.ensures
 
 pub returns : goal.returns
 returns c = replay-full c.loop-k.invariant c.loop-k-test.false
