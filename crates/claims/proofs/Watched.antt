@@ -22,8 +22,9 @@ use Rattle.header.specs.declared.Side.TheVariants.{Guest, Host}
 use Rattle.header.specs.Link.{is_guest, shared_set, id_width, passed}
 use Rattle.device.specs.Device.{is_row}
 use Rattle.requests.specs.Requests.{lowest}
+use Rattle.watch.specs.declared.RowWatch.{RowWatch}
 use Rattle.watch.specs.declared.Watch.{Watch}
-use Rattle.watch.specs.Watch.{RowWatch, modulus, ahead, one_more, seen, begun, in_rows, watch_at, index_of, watched_in, watched_row, changed_at, seen_on, begun_on, breaks_on, gap_on}
+use Rattle.watch.specs.Watch.{modulus, ahead, one_more, seen, begun, in_rows, watch_at, index_of, watched_in, watched_row, changed_at, seen_on, begun_on, breaks_on, gap_on}
 use Rattle.watch.proofs.Ids.{ahead-below, ahead-leads, ahead_none, ahead-some}
 use Rattle.watch.proofs.Rows.{changed-at, forgotten-at}
 use Rattle.kinds.specs.Table.{kinds}

@@ -7,7 +7,8 @@ use Rattle.header.specs.declared.Side.TheVariants.{Guest, Host}
 use Rattle.kinds.specs.Content.{Value, packet_of, one}
 use Rattle.kinds.specs.Number.{onward, wire_number}
 use Rattle.events.specs.Event.{event_of}
-use Rattle.watch.specs.Watch.{RowWatch, watch_at}
+use Rattle.watch.specs.declared.RowWatch.{RowWatch}
+use Rattle.watch.specs.Watch.{watch_at}
 use Rattle.session.specs.declared.Session.{Session}
 use Rattle.session.specs.Session.{fresh_session, link_of}
 use Rattle.session.specs.Step.{Judged, judged}

@@ -85,7 +85,7 @@ FreshIs =
             streams = replicate 32 false;
           };
       requests = record { used = 0; live = replicate 96 false; kinds = replicate 96 0; ids = replicate 96 0; slots = replicate 96 (record { length = 0; target = 0 }) };
-      watch = record { expected = replicate 16 0; gaps = replicate 16 0; breaks = replicate 16 0 };
+      watch = record { rows = replicate 16 (record { expected = 0; gap = 0; breaks = 0 }) };
     }
 
 -- its rows and places, one by one

@@ -7,8 +7,9 @@ use Rattle.endpoint.specs.declared.Row.{Row}
 use Rattle.header.specs.declared.Side.{Side}
 use Rattle.header.specs.declared.Side.TheVariants.{Host}
 use Rattle.header.specs.Link.{is_guest, passed, id_width}
+use Rattle.watch.specs.declared.RowWatch.{RowWatch}
 use Rattle.watch.specs.declared.Watch.{Watch}
-use Rattle.watch.specs.Watch.{RowWatch, watch_at, breaks_on, gap_on}
+use Rattle.watch.specs.Watch.{watch_at, breaks_on, gap_on}
 use Rattle.kinds.specs.Content.{Content}
 use Rattle.kinds.specs.Number.{wire_number}
 use Rattle.events.specs.Event.{event_of}

@@ -6,8 +6,9 @@ use Rattle.std.proofs.Common.{◌≡◌, ℕ, zero, suc, ◌+◌, ◌-◌, ◌*�
 use lib.Seq.{sets}
 use borrow.Rule.Slice.PartMut.{mid_of, post_of, put_mid, Post-is}
 use Rattle.octets.specs.Little.{bytes_of}
+use Rattle.watch.specs.declared.RowWatch.{RowWatch}
 use Rattle.watch.specs.declared.Watch.{Watch}
-use Rattle.watch.specs.Watch.{RowWatch, watch_at}
+use Rattle.watch.specs.Watch.{watch_at}
 use Rattle.test_drive.specs.Drive.{row_bytes, rows_bytes}
 use Rattle.test_drive.proofs.RecordBytes.{behind}
 

@@ -9,8 +9,9 @@ use Rattle.header.specs.declared.Side.{Side}
 use Rattle.header.specs.declared.Side.TheVariants.{Guest, Host}
 use Rattle.header.specs.Link.{side_of}
 use Rattle.decoder.specs.Reading.{PacketTold}
+use Rattle.watch.specs.declared.RowWatch.{RowWatch}
 use Rattle.watch.specs.declared.Watch.{Watch}
-use Rattle.watch.specs.Watch.{RowWatch, in_rows, watch_at}
+use Rattle.watch.specs.Watch.{in_rows, watch_at}
 use Rattle.session.specs.declared.Session.{Session}
 use Rattle.session.specs.Session.{fresh_session}
 use Rattle.frame.specs.declared.Location.{Location}

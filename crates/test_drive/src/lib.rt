@@ -15,7 +15,7 @@ use header::{Side, side_of};
 use octets::{get8, get32, part, put};
 use packet::rest_of;
 use session::{Session, fresh_session};
-use watch::{IN_ROWS, Watch};
+use watch::Watch;
 
 // Where the part that a packet names stands among the packet's bytes, and the packet's id.
 #[derive(Clone, Copy)]
@@ -76,10 +76,10 @@ fn put_record(out: &mut [u8], at: usize, a: &Answer)
 fn put_watch(out: &mut [u8], w: &Watch)
     ensures { out.new ≡ sets out.old 0 (watch_bytes w.now) }
 {
-    for i in 0..IN_ROWS {
-        put(out, i * 18, 2, w.breaks[i] as u64);
-        put(out, i * 18 + 2, 8, w.gaps[i]);
-        put(out, i * 18 + 10, 8, w.expected[i]);
+    for (i, row) in w.rows.iter().enumerate() {
+        put(out, i * 18, 2, row.breaks as u64);
+        put(out, i * 18 + 2, 8, row.gap);
+        put(out, i * 18 + 10, 8, row.expected);
     }
 }
 

@@ -3,21 +3,19 @@
 -- force, 32 or 64 bits. An unexpected id counts one break, sets the row's last gap to how far ahead it lies modulo the width, and becomes the new
 -- base." Which packet does what to it is `watch_after` in `session/specs/Step.antt`.
 -- Assumes nothing: these are definitions.
-use Rattle.std.specs.Prelude.{ℕ, ◌+◌, ◌-◌, ◌%◌, ◌^◌, Bool, cond, replicate, ◌==◌, nat_lt, slice_index, Option, Some, None}
+use Rattle.std.specs.Prelude.{ℕ, ◌+◌, ◌-◌, ◌%◌, ◌^◌, Bool, cond, map, get_or, replicate, ◌==◌, nat_lt, Option, Some, None}
 use Rattle.endpoint.specs.declared.Endpoint.{Endpoint}
 use Rattle.endpoint.specs.declared.Row.{Row}
 use Rattle.endpoint.specs.Endpoint.{row_of}
 use Rattle.scan.specs.Scan.{put_at}
+use Rattle.watch.specs.declared.RowWatch.{RowWatch}
 use Rattle.watch.specs.declared.Watch.{Watch}
 
 -- ---- one row
 
--- what is kept of an IN row: the id that the next packet should have, how far ahead of it the last one lay that had another, and how many had
--- another
-pub record RowWatch : Type 0 where
-  pub expected : ℕ
-  pub gap : ℕ
-  pub breaks : ℕ
+-- "At first .. 0 is expected"; "counts and gaps are kept in the session, 0 at first"
+abbrev pub start_row : RowWatch
+start_row = record { expected = 0; gap = 0; breaks = 0 }
 
 -- "at the width in force, 32 or 64 bits": how many ids there are
 abbrev pub modulus : Bool → ℕ
@@ -59,13 +57,12 @@ begun w = record { expected = 0; gap = w.gap; breaks = w.breaks }
 abbrev pub in_rows : ℕ
 in_rows = 16
 
--- IN row 16 + i
+-- IN row 16 + i; past the last one it reads as a row at the start
 abbrev pub watch_at : Watch → ℕ → RowWatch
-watch_at w i = record { expected = slice_index w.expected i; gap = slice_index w.gaps i; breaks = slice_index w.breaks i }
+watch_at w i = get_or w.rows i start_row
 
--- "At first .. 0 is expected"; "counts and gaps are kept in the session, 0 at first"
 unfoldable pub start_watch : Watch
-start_watch = record { expected = replicate in_rows 0; gaps = replicate in_rows 0; breaks = replicate in_rows 0 }
+start_watch = record { rows = replicate in_rows start_row }
 
 -- which of them a row is, from 0 on; 16 or more where it is none
 unfoldable pub index_of : Row → ℕ
@@ -81,12 +78,7 @@ watched_row e = watched_in (row_of e)
 
 -- row i changed, and none past the last
 abbrev pub with_row : Watch → ℕ → RowWatch → Watch
-with_row w i r =
-    record {
-      expected = put_at in_rows 0 w.expected i r.expected;
-      gaps = put_at in_rows 0 w.gaps i r.gap;
-      breaks = put_at in_rows 0 w.breaks i r.breaks;
-    }
+with_row w i r = record { rows = put_at in_rows start_row w.rows i r }
 
 unfoldable pub changed_at : (RowWatch → RowWatch) → Watch → ℕ → Watch
 changed_at f w i = cond (nat_lt i in_rows) (with_row w i (f (watch_at w i))) w
@@ -100,7 +92,7 @@ begun_on w e = changed_at begun w (watched_row e)
 
 -- a disconnect: 0 is expected as at first; "counts and gaps .. outlast a disconnect"
 unfoldable pub forgotten : Watch → Watch
-forgotten w = record { expected = replicate in_rows 0; gaps = w.gaps; breaks = w.breaks }
+forgotten w = record { rows = map begun w.rows }
 
 -- ---- what a user reads: the breaks and the last gap of a row, 0 where it is not watched
 

@@ -10,15 +10,21 @@ use endpoint::{Endpoint, Row, row_of};
 // The IN rows, 16 to 31.
 pub const IN_ROWS: usize = 16;
 
-// A column for each thing that is kept of the IN rows; row 16 is the first.
+// What is kept of an IN row.
+#[derive(Clone, Copy)]
+pub struct RowWatch {
+    // the id that the next packet should have
+    pub expected: u64,
+    // how far ahead of it the last one lay that had another
+    pub gap: u64,
+    // how many had another
+    pub breaks: u16,
+}
+
+// The IN rows; row 16 is the first.
 #[derive(Clone, Copy)]
 pub struct Watch {
-    // the id that the next packet should have
-    pub expected: [u64; IN_ROWS],
-    // how far ahead of it the last one lay that had another
-    pub gaps: [u64; IN_ROWS],
-    // how many had another
-    pub breaks: [u16; IN_ROWS],
+    pub rows: [RowWatch; IN_ROWS],
 }
 
 // A watch at the start.
@@ -26,14 +32,17 @@ pub struct Watch {
 pub fn start_watch() -> Watch
     ensures { result ≡ start_watch }
 {
+    let row = RowWatch {
+        expected: 0,
+        gap: 0,
+        breaks: 0,
+    };
     Watch {
-        expected: [0; IN_ROWS],
-        gaps: [0; IN_ROWS],
-        breaks: [0; IN_ROWS],
+        rows: [row; IN_ROWS],
     }
 }
 
-// Where an IN row stands in the columns; another row is not watched.
+// Where an IN row stands in the watch; another row is not watched.
 #[tactic(auto, unfolding(crate::specs::Watch::index_of))]
 fn index_of(r: Row) -> Option<usize>
     ensures { MatchOption result (IN_ROWS ≤ index_of r) (λ i. (i ≡ index_of r) × (i < IN_ROWS)) }
@@ -46,7 +55,7 @@ fn index_of(r: Row) -> Option<usize>
     }
 }
 
-// Where an endpoint's row stands in the columns, where it is watched.
+// Where an endpoint's row stands in the watch, where it is watched.
 #[tactic(auto, unfolding(crate::specs::Watch::watched_row))]
 fn watched_row(e: Endpoint) -> Option<usize>
     ensures { MatchOption result (IN_ROWS ≤ watched_row e) (λ i. (i ≡ watched_row e) × (i < IN_ROWS)) }
@@ -82,11 +91,12 @@ impl Watch {
         ensures { self.new ≡ seen_on wide id self.old e }
     {
         if let Some(i) = watched_row(e) {
-            let gap = distance(wide, self.expected[i], id);
-            self.expected[i] = id_after(wide, id);
+            let row = &mut self.rows[i];
+            let gap = distance(wide, row.expected, id);
+            row.expected = id_after(wide, id);
             if gap != 0 {
-                self.gaps[i] = gap;
-                self.breaks[i] = self.breaks[i].saturating_add(1);
+                row.gap = gap;
+                row.breaks = row.breaks.saturating_add(1);
             }
         }
     }
@@ -96,16 +106,17 @@ impl Watch {
         ensures { self.new ≡ begun_on self.old e }
     {
         if let Some(i) = watched_row(e) {
-            self.expected[i] = 0;
+            self.rows[i].expected = 0;
         }
     }
 
     // On every row 0 is expected; counts and gaps stay.
-    #[tactic(auto, unfolding(crate::specs::Watch::forgotten))]
     pub fn forget(&mut self)
         ensures { self.new ≡ forgotten self.old }
     {
-        self.expected = [0; IN_ROWS];
+        for row in self.rows.iter_mut() {
+            row.expected = 0;
+        }
     }
 
     // How many packets of a row had another id than the expected one; 0 for a row that is not watched.
@@ -114,7 +125,7 @@ impl Watch {
         ensures { result ≡ breaks_on self.now r }
     {
         match index_of(r) {
-            Some(i) => self.breaks[i],
+            Some(i) => self.rows[i].breaks,
             None => 0,
         }
     }
@@ -126,7 +137,7 @@ impl Watch {
         ensures { result ≡ gap_on self.now r }
     {
         match index_of(r) {
-            Some(i) => self.gaps[i],
+            Some(i) => self.rows[i].gap,
             None => 0,
         }
     }
