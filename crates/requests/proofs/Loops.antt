@@ -8,7 +8,7 @@
 -- `distinct` computes one step.
 -- Assumes nothing.
 use Rattle.std.specs.Prelude.{Option, Some, None, max, position}
-use Rattle.std.specs.List.{list_any, position_from}
+use Rattle.std.specs.List.{position_from}
 use Rattle.std.specs.Bool.{then_some}
 use Rattle.std.specs.Option.{option_or}
 use Rattle.std.proofs.lemmas.Iterator.Adapters.{position_from-zero}
@@ -46,14 +46,9 @@ module _ (l : List ℕ) (i : ℕ) (h : i < length l) where
   unfolding distinct
   distinct_more e = rw (add-one, drop-cons l i 0 h) (rw (rw add-one at e))
 
--- the library's test of the numbers after i is the definition's
-any-exists : (l : List ℕ) (n : ℕ) → list_any (λ m. eqb m n) l ≡ exists (same n) l
-unfolding exists
-any-exists [] n = refl
-any-exists (m ∷ l) n = ap (λ b. eqb m n || b) (any-exists l n)
-
-pub rest-exists : (l : List ℕ) (k n : ℕ) → exists (same n) (drop k l) ≡ list_any (λ m. eqb m n) (take (length l - k) (drop k l))
-rest-exists l k n = rw (← length-drop k l, take-length) (sym (any-exists (drop k l) n))
+-- the numbers after i, as a part of the list
+pub rest-is : (l : List ℕ) (k n : ℕ) → exists (same n) (drop k l) ≡ exists (same n) (take (length l - k) (drop k l))
+rest-is l k n = rw (← length-drop k l, take-length) refl
 
 pub distinct_none : (l : List ℕ) (i : ℕ) → length l ≤ i → distinct (drop i l) ≡ true
 unfolding distinct
