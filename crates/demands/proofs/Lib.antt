@@ -1,3 +1,4 @@
+pub mod Columns
 pub mod Numbers
 pub mod KeptByCall
 pub mod Demand3

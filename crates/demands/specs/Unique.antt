@@ -36,6 +36,18 @@ abbrev pub OneDecision : Type 0
 OneDecision = (from : Side) (s : Session) (hold piece : List ℕ) (d k : Decided) (after later : List ℕ)
     → Decides from s d hold piece after → Decides from s k hold piece later → (d ≡ k) × (after ≡ later)
 
+-- Sessions that agree in what a decision reads: the head, the types and the streams of the rows, and the requests.
+pub record SameColumns (s t : Session) : Type 0 where
+  pub head : s.head ≡ t.head
+  pub types : s.rows.types ≡ t.rows.types
+  pub streams : s.rows.streams ≡ t.rows.streams
+  pub requests : s.requests ≡ t.requests
+
+-- A decision of one of them is a decision of the other, whatever interfaces and watch each has: no decision reads these (`gate::decide`).
+abbrev pub ColumnsDecide : Type 0
+ColumnsDecide = (from : Side) (s t : Session) (hold piece : List ℕ) (d : Decided) (after : List ℕ)
+    → SameColumns s t → Decides from s d hold piece after → Decides from t d hold piece after
+
 -- The bytes of a packet have one reading (`decoder::read`), and so has a body behind a header (`decoder::read_behind`).
 abbrev pub OneReading : Type 0
 OneReading = (l : Link) (bytes : List ℕ) (v w : Reading) → told l bytes v ≡ read_of l bytes → told l bytes w ≡ read_of l bytes → v ≡ w
