@@ -1,5 +1,5 @@
 -- Bytes moved to the front of a list (`shifted`, `shift-keeps`), and stored into a part of it (`sets-part`); what the program's steps do
--- (`writes-much`, `line-printed`, `run-goes`).
+-- (`writes-much`, `line-printed`).
 -- Moving writes at i and reads at start + i, which no write so far has reached (`get_d-sets-past`). At most 22,528 bytes of output wait and a line prints at most 239,616: there is room for both (`line-room`).
 -- Assumes nothing.
 use Rattle.std.specs.Prelude.{Some, None, is_some}
