@@ -46,6 +46,19 @@ module _ (l : List ℕ) (i : ℕ) (h : i < length l) where
   unfolding distinct
   distinct_more e = rw (add-one, drop-cons l i 0 h) (rw (rw add-one at e))
 
+-- a number is found at i or after it
+pub exists-from : (n : ℕ) (l : List ℕ) (i : ℕ) → i < length l → exists (same n) (drop i l) ≡ (same n (get_or l i 0) || exists (same n) (drop (i + 1) l))
+unfolding exists
+exists-from n l i h = rw (add-one, drop-cons l i 0 h) refl
+
+pub or-or : (a b c : Bool) → (a || (b || c)) ≡ ((a || b) || c)
+or-or true b c = refl
+or-or false b c = refl
+
+pub or-none : (a : Bool) → (a || false) ≡ a
+or-none true = refl
+or-none false = refl
+
 -- the numbers after i, as a part of the list
 pub rest-is : (l : List ℕ) (k n : ℕ) → exists (same n) (drop k l) ≡ exists (same n) (take (length l - k) (drop k l))
 rest-is l k n = rw (← length-drop k l, take-length) refl

@@ -258,16 +258,16 @@ impl Requests {
     }
 }
 
-// One of these numbers is n. The library's `contains` takes a third more time where the table is full.
+// One of these numbers is n. The library's `contains` takes a third more time where the table is full. Without a way out
+// of the loop several numbers are compared at once.
 fn occurs(ids: &[u64], n: u64) -> bool
     ensures { result ≡ exists (same n) ids.now }
 {
+    let mut found = false;
     for i in 0..ids.len() {
-        if ids[i] == n {
-            return true;
-        }
+        found |= ids[i] == n;
     }
-    false
+    found
 }
 
 // None of these numbers stands there twice.

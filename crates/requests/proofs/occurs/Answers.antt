@@ -1,16 +1,18 @@
--- `requests::occurs` meets its contract: the numbers from i on hold the answer (`exists-hit`, `exists-miss`).
+-- `requests::occurs` meets its contract: it is found so far, or the numbers from i on hold it (`exists-from`).
 -- Assumes nothing.
-use Rattle.std.proofs.Common.{◌∙◌, sym, arith}
-use borrow.Author.Tests.{eq-eqb, ne_eqb}
-use Rattle.scan.specs.Loop.{exists-hit, exists-miss, exists-none}
+use Rattle.std.proofs.Common.{◌∙◌, sym, ap, arith, ◌||◌}
+use Rattle.scan.specs.Loop.{exists-none}
 use Rattle.requests.specs.Requests.{same}
+use Rattle.requests.proofs.Loops.{exists-from, or-or, or-none}
 use Rattle.requests.proofs.occurs.Goals as goal
 
-pub returns-then-ids-i : goal.returns-then-ids-i
-returns-then-ids-i c = sym (c.loop-i.invariant ∙ exists-hit (same _) c.args.ids.now c.loop-i.i 0 (omega arith) (eq-eqb _ _ c.if-ids-i.true))
-
 pub loop-i-preserved : goal.loop-i-preserved
-loop-i-preserved c = c.loop-i.invariant ∙ exists-miss (same _) c.args.ids.now c.loop-i.i 0 (omega arith) (ne_eqb _ _ c.if-ids-i.false)
+loop-i-preserved c =
+    let l = c.args.ids.now in
+    let i = c.loop-i.i in
+    c.loop-i.invariant ∙ ap (λ b. c.loop-i.found || b) (exists-from c.args.n l i (omega arith)) ∙ or-or c.loop-i.found _ _
 
 pub returns : goal.returns
-returns c = sym (c.loop-i.invariant ∙ exists-none (same _) c.args.ids.now c.loop-i.i (omega arith))
+returns c =
+    let l = c.args.ids.now in
+    sym (c.loop-i.invariant ∙ ap (λ b. c.loop-i.found || b) (exists-none (same c.args.n) l c.loop-i.i (omega arith)) ∙ or-none c.loop-i.found)
